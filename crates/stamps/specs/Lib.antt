@@ -1,0 +1,3 @@
+pub mod Keys
+pub mod Stamps
+pub mod Sums

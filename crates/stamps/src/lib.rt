@@ -1,0 +1,100 @@
+// Stamps and keys: numbers only. What a feed sends, what is kept of it, and when two rows have met before.
+ghost use mathlib.Core.Path.{_≡_};
+ghost use Prim.Native.Nat.{_<_};
+ghost use Rattle.stamps.specs.Keys.{made, itemsMatch, partOf};
+ghost use Rattle.stamps.specs.Stamps.{alive, presentAt, together, covers};
+
+// A: lap passings. B: pack fault notes.
+pub enum Source {
+    A,
+    B,
+}
+
+// What a feed sends.
+pub struct Message {
+    pub car: u32,
+    pub lap: u32,
+}
+
+// What is kept of a message. Nobody above this crate looks into a key.
+pub struct Item {
+    pub key: u32,
+}
+
+// A row: its item, the clock at its arrival, and the clock at its flush, 0 while it is in memory.
+pub struct Row {
+    pub item: Item,
+    pub ats: u32,
+    pub dts: u32,
+}
+
+// What a run leaves in a probe list: the largest DTS that it used, and the clock.
+pub struct Entry {
+    pub last: u32,
+    pub probe: u32,
+}
+
+pub enum Made {
+    Good(Item),
+    BadKey,
+}
+
+// The item of a message, if its numbers are in range.
+pub fn item_of(message: Message) -> Made
+    ensures { λ r. ⌜ r ≡ made message ⌝ }
+{
+    let car = message.car;
+    let lap = message.lap;
+    if car < 1 {
+        return Made::BadKey;
+    }
+    if 999 < car {
+        return Made::BadKey;
+    }
+    if 999 < lap {
+        return Made::BadKey;
+    }
+    Made::Good(Item {
+        key: car * 1000 + lap,
+    })
+}
+
+pub fn items_match(x: Item, y: Item) -> bool
+    ensures { λ r. ⌜ r ≡ itemsMatch x y ⌝ }
+{
+    x.key == y.key
+}
+
+pub fn part_of(parts: u32, item: Item) -> u32
+    requires { ⌜ 0 < parts ⌝ }
+    ensures { λ r. ⌜ (r ≡ partOf parts item) × (r < parts) ⌝ }
+{
+    item.key % parts
+}
+
+// A row with these stamps was not yet flushed when the clock stood at t.
+pub fn alive_at(t: u32, row: Row) -> bool
+    ensures { λ r. ⌜ r ≡ alive t row ⌝ }
+{
+    (row.dts == 0) | (t < row.dts)
+}
+
+pub fn present_at(t: u32, row: Row) -> bool
+    ensures { λ r. ⌜ r ≡ presentAt t row ⌝ }
+{
+    (row.ats <= t) & alive_at(t, row)
+}
+
+// Rule 1 of 'done before'.
+pub fn were_together(x: Row, y: Row) -> bool
+    ensures { λ r. ⌜ r ≡ together x y ⌝ }
+{
+    alive_at(x.ats, y) & alive_at(y.ats, x)
+}
+
+// Rules 2 and 3 for one entry: the run that left it used the spooled x while y was in memory.
+pub fn run_covers(entry: Entry, x: Row, y: Row) -> bool
+    ensures { λ r. ⌜ r ≡ covers entry x y ⌝ }
+{
+    !alive_at(entry.last, x) & present_at(entry.probe, y)
+}
