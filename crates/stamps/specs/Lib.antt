@@ -1,3 +1,5 @@
+pub mod Counting
 pub mod Keys
+pub mod Sources
 pub mod Stamps
 pub mod Sums

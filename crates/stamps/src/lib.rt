@@ -2,12 +2,22 @@
 ghost use mathlib.Core.Path.{_≡_};
 ghost use Prim.Native.Nat.{_<_};
 ghost use Rattle.stamps.specs.Keys.{made, itemsMatch, partOf};
+ghost use Rattle.stamps.specs.Sources.{other};
 ghost use Rattle.stamps.specs.Stamps.{alive, presentAt, together, covers};
 
 // A: lap passings. B: pack fault notes.
 pub enum Source {
     A,
     B,
+}
+
+pub fn other_source(source: Source) -> Source
+    ensures { λ r. ⌜ r ≡ other source ⌝ }
+{
+    match source {
+        Source::A => Source::B,
+        Source::B => Source::A,
+    }
 }
 
 // What a feed sends.

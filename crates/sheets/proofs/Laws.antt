@@ -1,0 +1,49 @@
+-- What the layers above may know of the sheets: what is laid is read back, and every other word stays.
+-- By induction on the rows laid. Assumes nothing.
+use mathlib.Core.Path.{_≡_, refl, _∙_, fun-ext}
+use mathlib.Core.Bool.{Bool, true, false, cond}
+use mathlib.Core.List.{List}
+use Prim.Native.Nat.{ℕ, zero, suc, _≤_}
+use native.Mathlib.Omega.{arith}
+use lib.Dec.{ltb, eqb}
+use lib.ListN.{length, getD}
+use borrow.Author.Tests.{lt-ltb, eqb-true}
+use Rattle.stamps.specs.declared.Row.{Row}
+use Rattle.stamps.specs.Counting.{upTo}
+use Rattle.stamps.specs.Counting.Laws.{tests}
+use Rattle.sheets.specs.Layout.{rowsNeed, rowAt, putRow}
+use Rattle.sheets.specs.Layout.Laws.{length-putRow, row-same, row-other, row-beyond}
+use Rattle.sheets.specs.Rows.{lay}
+
+-- ---- rows laid over a sheet
+
+pub length-lay : (f : ℕ → Row) (n : ℕ) (l : List ℕ) → length (lay f n l) ≡ length l
+unfolding lay
+length-lay f zero l = refl
+length-lay f (suc n) l = length-putRow n (f n) (lay f n l) ∙ length-lay f n l
+
+-- a row that is not laid stays
+pub row-above : (f : ℕ → Row) (n : ℕ) (l : List ℕ) (i : ℕ) → n ≤ i → rowAt (lay f n l) i ≡ rowAt l i
+unfolding lay
+row-above f zero l i h = refl
+row-above f (suc n) l i h = row-other (lay f n l) n (f n) i (omega arith) ∙ row-above f n l i (omega arith)
+
+-- and so does every word beyond
+pub lay-beyond : (f : ℕ → Row) (n : ℕ) (l : List ℕ) (p : ℕ) → rowsNeed n ≤ p → getD (lay f n l) p 0 ≡ getD l p 0
+unfolding lay
+lay-beyond f zero l p h = refl
+lay-beyond f (suc n) l p h = row-beyond (lay f n l) n (f n) p h ∙ lay-beyond f n l p (omega arith)
+
+-- what is laid is read back
+pub rows-lay : (f : ℕ → Row) (n : ℕ) (l : List ℕ) → rowsNeed n ≤ length l → rowAt (lay f n l) ≡ upTo n f (rowAt l)
+unfolding lay
+rows-lay f n l h = fun-ext λ i. go i n h (ltb i n) refl
+  where
+    go : (i n : ℕ) → rowsNeed n ≤ length l → (u : Bool) → ltb i n ≡ u → rowAt (lay f n l) i ≡ cond u (f i) (rowAt l i)
+    go i n b false e = row-above f n l i (omega (arith, tests))
+    go i zero b true e = absurd (omega (arith, tests))
+    go i (suc n) b true e = last (eqb i n) refl (go i n (omega arith) true)
+      where
+        last : (u : Bool) → eqb i n ≡ u → (ltb i n ≡ true → rowAt (lay f n l) i ≡ f i) → rowAt (putRow n (f n) (lay f n l)) i ≡ f i
+        last true g ih = rw (eqb-true i n g) (row-same (lay f n l) n (f n) (rw length-lay b))
+        last false g ih = row-other (lay f n l) n (f n) i (omega (arith, tests)) ∙ ih (lt-ltb i n (omega (arith, tests)))

@@ -1,0 +1,55 @@
+-- `sheets::rows::flush` meets its contract: the sheet so far has the flushed rows laid over those passed.
+-- Assumes nothing.
+use borrow.Author.Needs.{needs}
+use Prim.Native.Nat.{_≤_, _-_}
+use mathlib.Core.Path.{_≡_, sym, _∙_}
+use native.Mathlib.Omega.{arith}
+use borrow.Author.Tests.{eq-eqb, ne-eqb}
+use Rattle.sheets.proofs.RowTurns.{Flushing, flushing-first, flushing-hot, flushing-cold}
+use Rattle.sheets.proofs.rows.flush.Statement.{statement}
+use Rattle.sheets.proofs.rows.flush.Tie as tie
+
+abbrev Inv-loop : tie.InvT-loop
+Inv-loop sheet₀ rows parts part clock done₀ i₀ sheet done i = (i ≤ rows) × Flushing parts part clock sheet₀ i done sheet
+
+abbrev μ-loop : tie.MeasureT-loop
+μ-loop sheet₀ rows parts part clock done₀ i₀ sheet done i = rows - i
+
+loop-holds : tie.Need-loop-holds Inv-loop μ-loop
+loop-holds c = (search needs, flushing-first _ _ _ _)
+
+loop-again : tie.Need-loop-again Inv-loop μ-loop
+loop-again c = (omega arith, rw (c .before .before .put-dts .ensures) (flushing-hot _ _ _ _ _ _ _ (c .before .before .before .before .before .before .before .before .before .before .before .before .loop .inv .1) (rw (eq-eqb _ _ (sym (c .before .before .before .before .before .before .before .before .before .dts-at .ensures) ∙ c .before .before .before .before .before .before .before .before .if1 .taken), ← c .before .before .before .before .before .before .item-at .ensures, eq-eqb _ _ (sym (c .before .before .before .before .before .part-of .ensures .0) ∙ c .before .before .before .before .if2 .taken)))))
+
+loop-again-2 : tie.Need-loop-again-2 Inv-loop μ-loop
+loop-again-2 c = (omega arith, flushing-cold _ _ _ _ _ _ _ (c .before .before .before .before .before .before .before .before .loop .inv .1) (rw (eq-eqb _ _ (sym (c .before .before .before .before .before .dts-at .ensures) ∙ c .before .before .before .before .if1 .taken), ← c .before .before .item-at .ensures, ne-eqb _ _ (λ e. c .if2 .left (c .before .part-of .ensures .0 ∙ e)))))
+
+loop-again-3 : tie.Need-loop-again-3 Inv-loop μ-loop
+loop-again-3 c = (omega arith, flushing-cold _ _ _ _ _ _ _ (c .before .before .before .before .loop .inv .1) (rw (ne-eqb _ _ (λ e. c .if1 .left (c .before .dts-at .ensures ∙ e)))))
+
+returns : tie.Need-returns Inv-loop μ-loop
+returns c = let e : c .before .loop .i ≡ c .before .before .before .args .rows = omega arith in
+    record { count = rw (← e) (c .before .loop .inv .1 .counted .sum); sheet = rw (← e) (c .before .loop .inv .1 .sheet); few = omega arith }
+
+pub flush-spec : {M : Type 1} → statement M
+flush-spec =
+    tie.close
+    (tie.spec
+    Inv-loop
+    μ-loop
+    loop-holds
+    (λ c. search needs)
+    (λ c κs. search needs)
+    (λ c κs. search needs)
+    (λ c κs. search needs)
+    (λ c. search needs)
+    (λ c. search needs)
+    (λ c κs. search needs)
+    (λ c. search needs)
+    loop-again
+    (λ c. search needs)
+    loop-again-2
+    (λ c. search needs)
+    loop-again-3
+    (λ c. search needs)
+    returns)

@@ -1,0 +1,71 @@
+-- How rows, entries and pairs stand in 32-bit words. Only this module and those below it know how many words each has.
+use mathlib.Core.List.{List, [], _∷_}
+use Prim.Native.Nat.{ℕ, _+_, _*_, _/_}
+use lib.ListN.{getD}
+use lib.Seq.{sets}
+use Rattle.stamps.specs.declared.Source.{Source}
+use Rattle.stamps.specs.declared.Source.the-variants.{A, B}
+use Rattle.stamps.specs.declared.Row.{Row}
+use Rattle.stamps.specs.declared.Entry.{Entry}
+pub mod Meaning
+pub mod Laws
+
+-- ---- rows: "three words a row (key, ATS, DTS), row r at word 3r"
+
+abbrev pub rowsNeed : ℕ → ℕ
+rowsNeed n = 3 * n
+
+pub rowAt : List ℕ → ℕ → Row
+rowAt l r = record { item = record { key = getD l (3 * r) 0 }; ats = getD l (3 * r + 1) 0; dts = getD l (3 * r + 2) 0 }
+
+abbrev pub rowWords : Row → List ℕ
+rowWords x = x .item .key ∷ x .ats ∷ x .dts ∷ []
+
+pub putRow : ℕ → Row → List ℕ → List ℕ
+putRow r x l = sets l (3 * r) (rowWords x)
+
+-- ---- entries: "Entry e of source s (A is 0, B is 1), partition p, is at word 64(sP + p) + 2e: DTS-last, then ProbeTS"
+
+abbrev pub probeNeed : ℕ → ℕ
+probeNeed parts = 128 * parts
+
+-- the words up to the end of entry n - 1 of list k
+abbrev pub listNeed : ℕ → ℕ → ℕ
+listNeed k n = 64 * k + 2 * n
+
+-- the number of a list, sP + p
+abbrev pub listNo : ℕ → Source → ℕ → ℕ
+listNo parts A p = p
+listNo parts B p = parts + p
+
+pub entryAt : List ℕ → ℕ → ℕ → Entry
+entryAt l k e = record { last = getD l (64 * k + 2 * e) 0; probe = getD l (64 * k + 2 * e + 1) 0 }
+
+abbrev pub entryWords : Entry → List ℕ
+entryWords x = x .last ∷ x .probe ∷ []
+
+pub putEntry : ℕ → ℕ → Entry → List ℕ → List ℕ
+putEntry k e x l = sets l (64 * k + 2 * e) (entryWords x)
+
+-- ---- pairs: "A pair is (A row number, B row number, key)", "three words a pair"
+
+pub record Told : Type 0 where
+  pub a : ℕ
+  pub b : ℕ
+  pub key : ℕ
+
+abbrev pub pairsNeed : ℕ → ℕ
+pairsNeed n = 3 * n
+
+-- "Its room is its length divided by 3, rounded down"
+abbrev pub roomOf : ℕ → ℕ
+roomOf words = words / 3
+
+pub pairAt : List ℕ → ℕ → Told
+pairAt o w = record { a = getD o (3 * w) 0; b = getD o (3 * w + 1) 0; key = getD o (3 * w + 2) 0 }
+
+abbrev pub pairWords : Told → List ℕ
+pairWords x = x .a ∷ x .b ∷ x .key ∷ []
+
+pub putPair : ℕ → Told → List ℕ → List ℕ
+putPair w x o = sets o (3 * w) (pairWords x)

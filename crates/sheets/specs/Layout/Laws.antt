@@ -1,0 +1,67 @@
+-- What is written in words is read back, and the other words stay. By where each word stands; omega settles which words differ.
+-- Assumes nothing.
+use mathlib.Core.Path.{_≡_, refl, sym, ap, _∙_}
+use mathlib.Core.Logic.{_≢_}
+use mathlib.Core.List.{List, [], _∷_}
+use Prim.Native.Nat.{ℕ, zero, suc, _+_, _*_, _≤_, _<_}
+use native.Mathlib.Nat.{add-zero}
+use native.Mathlib.Omega.{arith}
+use lib.ListN.{length, getD, set, length-set}
+use lib.Seq.{sets, length-sets, getD-set-same, getD-set-other, set-getD}
+use Rattle.stamps.specs.declared.Row.{Row}
+use Rattle.stamps.specs.declared.Entry.{Entry}
+use Rattle.stamps.specs.Stamps.Laws.{stamp}
+use Rattle.sheets.specs.Layout.{rowsNeed, rowAt, rowWords, putRow, listNeed, entryAt, putEntry, Told, pairsNeed, pairAt, putPair}
+
+-- ---- a block of words
+
+sets-other : (vs l : List ℕ) (i p : ℕ) → ((k : ℕ) → k < length vs → p ≢ i + k) → getD (sets l i vs) p 0 ≡ getD l p 0
+sets-other [] l i p h = refl
+sets-other (v ∷ vs) l i p h =
+    sets-other vs (set l i v) (suc i) p (λ k b e. h (suc k) (omega arith) (omega arith)) ∙ getD-set-other l i p v 0 (λ e. h 0 (omega arith) (omega arith))
+
+sets-same : (vs l : List ℕ) (i j p : ℕ) → p ≡ i + j → j < length vs → i + length vs ≤ length l → getD (sets l i vs) p 0 ≡ getD vs j 0
+sets-same [] l i j p e h b = absurd (omega arith)
+sets-same (v ∷ vs) l i zero p e h b = sets-other vs (set l i v) (suc i) p (λ k c f. omega arith) ∙ rw (e, add-zero i) (getD-set-same l i v 0 (omega arith))
+sets-same (v ∷ vs) l i (suc j) p e h b = sets-same vs (set l i v) (suc i) j p (omega arith) (omega arith) (rw length-set (omega arith))
+
+sets-again : (vs l : List ℕ) (i : ℕ) → ((k p : ℕ) → k < length vs → p ≡ i + k → getD vs k 0 ≡ getD l p 0) → sets l i vs ≡ l
+sets-again [] l i h = refl
+sets-again (v ∷ vs) l i h = let e : set l i v ≡ l = rw (h 0 i (omega arith) (omega arith)) (set-getD l i 0) in
+    rw e (sets-again vs l (suc i) (λ k p b g. h (suc k) p (omega arith) (omega arith)))
+
+-- ---- rows
+
+pub length-putRow : (r : ℕ) (x : Row) (l : List ℕ) → length (putRow r x l) ≡ length l
+unfolding putRow
+length-putRow r x l = length-sets l (3 * r) (rowWords x)
+
+pub row-same : (l : List ℕ) (r : ℕ) (x : Row) → rowsNeed (suc r) ≤ length l → rowAt (putRow r x l) r ≡ x
+unfolding rowAt putRow
+row-same l r x h = λ i. record { item = record { key = word 0 (3 * r) (omega arith) (omega arith) i }; ats = word 1 (3 * r + 1) refl (omega arith) i; dts = word 2 (3 * r + 2) refl (omega arith) i }
+  where
+    word : (j p : ℕ) → p ≡ 3 * r + j → j < 3 → getD (sets l (3 * r) (rowWords x)) p 0 ≡ getD (rowWords x) j 0
+    word j p e b = sets-same (rowWords x) l (3 * r) j p e b (omega arith)
+
+pub row-other : (l : List ℕ) (r : ℕ) (x : Row) (i : ℕ) → i ≢ r → rowAt (putRow r x l) i ≡ rowAt l i
+unfolding rowAt putRow
+row-other l r x i d = λ k. record { item = record { key = word 0 (3 * i) (omega arith) (omega arith) k }; ats = word 1 (3 * i + 1) refl (omega arith) k; dts = word 2 (3 * i + 2) refl (omega arith) k }
+  where
+    word : (j p : ℕ) → p ≡ 3 * i + j → j < 3 → getD (sets l (3 * r) (rowWords x)) p 0 ≡ getD l p 0
+    word j p e b = sets-other (rowWords x) l (3 * r) p (λ k c f. d (omega arith))
+
+-- a word beyond a row's is as it was
+pub row-beyond : (l : List ℕ) (r : ℕ) (x : Row) (p : ℕ) → rowsNeed (suc r) ≤ p → getD (putRow r x l) p 0 ≡ getD l p 0
+unfolding putRow
+row-beyond l r x p h = sets-other (rowWords x) l (3 * r) p (λ k b e. omega arith)
+
+-- laying what is already there changes nothing
+pub row-again : (l : List ℕ) (r : ℕ) → putRow r (rowAt l r) l ≡ l
+unfolding putRow rowAt
+row-again l r = sets-again (rowWords (rowAt l r)) l (3 * r) word
+  where
+    word : (k p : ℕ) → k < 3 → p ≡ 3 * r + k → getD (rowWords (rowAt l r)) k 0 ≡ getD l p 0
+    word zero p b e = let f : p ≡ 3 * r = omega arith in rw f
+    word (suc zero) p b e = let f : p ≡ 3 * r + 1 = omega arith in rw f
+    word (suc (suc zero)) p b e = let f : p ≡ 3 * r + 2 = omega arith in rw f
+    word (suc (suc (suc k))) p b e = absurd (omega arith)

@@ -1,0 +1,69 @@
+-- Rows by number: which are in memory, which belong to a portion, what a flush makes of them, and the victim.
+-- `f` gives the rows of one source by their numbers, and n is how many there are.
+use mathlib.Core.Path.{_≡_}
+use mathlib.Core.Bool.{Bool, cond, not, _&&_}
+use mathlib.Core.List.{List}
+use Prim.Native.Nat.{ℕ, zero, suc, _+_, _≤_}
+use lib.Dec.{ltb, eqb}
+use Rattle.stamps.specs.declared.Source.{Source}
+use Rattle.stamps.specs.declared.Source.the-variants.{A, B}
+use Rattle.stamps.specs.declared.Row.{Row}
+use Rattle.stamps.specs.Counting.{tally, top}
+use Rattle.stamps.specs.Keys.{partOf}
+use Rattle.stamps.specs.Stamps.{inMemory}
+use Rattle.stamps.specs.Stamps.Laws.{stamp}
+use Rattle.sheets.specs.Layout.{rowAt, putRow}
+use Rattle.sheets.specs.declared.rows.Largest.{Largest}
+
+-- ---- memory rows and spooled rows
+
+-- a memory row of partition q; a spooled row of it
+abbrev pub hot : ℕ → ℕ → Row → Bool
+hot parts q r = inMemory r && eqb (partOf parts (r .item)) q
+
+abbrev pub spooled : ℕ → ℕ → Row → Bool
+spooled parts q r = not (inMemory r) && eqb (partOf parts (r .item)) q
+
+-- how many rows are in memory; how many of a portion are
+abbrev pub memoryRows : (ℕ → Row) → ℕ → ℕ
+memoryRows f n = tally (λ i. inMemory (f i)) n
+
+abbrev pub portionRows : ℕ → ℕ → (ℕ → Row) → ℕ → ℕ
+portionRows parts q f n = tally (λ i. hot parts q (f i)) n
+
+-- the largest DTS in a portion's spooled rows, 0 if it has none
+abbrev pub latest : ℕ → ℕ → (ℕ → Row) → ℕ → ℕ
+latest parts q f n = top (λ i. cond (spooled parts q (f i)) (f i .dts) 0) n
+
+-- ---- flush of a portion
+
+-- "Its memory rows in ascending row number: the clock goes up by one, and the row's DTS becomes the clock"
+abbrev pub flushed : ℕ → ℕ → ℕ → (ℕ → Row) → ℕ → Row
+flushed parts q clock f i = cond (hot parts q (f i)) (stamp (clock + portionRows parts q f (suc i)) (f i)) (f i)
+
+-- the first n rows of f laid over a sheet, every other word as it was
+unfoldable pub lay : (ℕ → Row) → ℕ → List ℕ → List ℕ
+lay f zero l = l
+lay f (suc n) l = putRow n (f n) (lay f n l)
+
+-- ---- the victim
+
+-- "the one with most memory rows; at a tie A before B, then the lower partition": the first of the largest
+abbrev pub larger : Largest → Largest → Largest
+larger x y = cond (ltb (x .size) (y .size)) y x
+
+-- the first of the largest among x and the first n partitions of source s, whose sizes are given
+abbrev pub largestOf : (ℕ → ℕ) → Source → ℕ → Largest → Largest
+largestOf size s zero x = x
+largestOf size s (suc q) x = larger (largestOf size s q x) (record { size = size q; source = s; part = q })
+
+unfoldable pub victim : ℕ → (ℕ → Row) → ℕ → (ℕ → Row) → ℕ → Largest
+victim parts f n g m =
+    largestOf (λ q. portionRows parts q g m) B parts
+    (largestOf (λ q. portionRows parts q f n) A parts (record { size = 0; source = A; part = 0 }))
+
+-- what a flush answers and leaves
+pub record Flushes (parts q clock n : ℕ) (l : List ℕ) (r : ℕ) (l′ : List ℕ) : Type 0 where
+  pub count : r ≡ portionRows parts q (rowAt l) n
+  pub sheet : l′ ≡ lay (flushed parts q clock (rowAt l)) n l
+  pub few : r ≤ n

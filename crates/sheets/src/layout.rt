@@ -1,0 +1,97 @@
+// Where rows, entries and pairs stand in 32-bit words. Nobody else knows how many words each has.
+use stamps::Entry;
+use stamps::Item;
+use stamps::Row;
+use stamps::Source;
+ghost use mathlib.Core.Path.{_≡_};
+ghost use Prim.Native.Nat.{_+_, _≤_};
+ghost use lib.ListN.{length};
+ghost use Rattle.stamps.specs.Stamps.Laws.{stamp};
+ghost use Rattle.sheets.specs.Layout.{rowsNeed, rowAt, putRow, listNeed, entryAt, putEntry, pairsNeed, putPair};
+
+const ROW: usize = 3;
+
+const ENTRY: usize = 2;
+
+const LIST: usize = 64;
+
+const PAIR: usize = 3;
+
+pub fn item_at(sheet: &[u32], row: usize) -> Item
+    requires { ⌜ rowsNeed (row + 1) ≤ length (now sheet) ⌝ }
+    ensures { λ r. ⌜ r ≡ rowAt (now (sheet .entry)) row .item ⌝ }
+{
+    Item {
+        key: sheet[ROW * row],
+    }
+}
+
+pub fn dts_at(sheet: &[u32], row: usize) -> u32
+    requires { ⌜ rowsNeed (row + 1) ≤ length (now sheet) ⌝ }
+    ensures { λ r. ⌜ r ≡ rowAt (now (sheet .entry)) row .dts ⌝ }
+{
+    sheet[ROW * row + 2]
+}
+
+pub fn row_at(sheet: &[u32], row: usize) -> Row
+    requires { ⌜ rowsNeed (row + 1) ≤ length (now sheet) ⌝ }
+    ensures { λ r. ⌜ r ≡ rowAt (now (sheet .entry)) row ⌝ }
+{
+    let at = ROW * row;
+    let item = item_at(sheet, row);
+    Row {
+        item,
+        ats: sheet[at + 1],
+        dts: sheet[at + 2],
+    }
+}
+
+pub fn put_row(sheet: &mut [u32], row: usize, x: Row)
+    requires { ⌜ rowsNeed (row + 1) ≤ length (now sheet) ⌝ }
+    ensures { λ _. ⌜ now (sheet .exit) ≡ putRow row x (now (sheet .entry)) ⌝ }
+{
+    let at = ROW * row;
+    sheet[at] = x.item.key;
+    sheet[at + 1] = x.ats;
+    sheet[at + 2] = x.dts;
+}
+
+// The row's DTS becomes t.
+pub fn put_dts(sheet: &mut [u32], row: usize, t: u32)
+    requires { ⌜ rowsNeed (row + 1) ≤ length (now sheet) ⌝ }
+    ensures { λ _. ⌜ now (sheet .exit) ≡ putRow row (stamp t (rowAt (now (sheet .entry)) row)) (now (sheet .entry)) ⌝ }
+{
+    sheet[ROW * row + 2] = t;
+}
+
+// Entry number e of a list.
+pub fn entry_at(probe: &[u32], list: usize, e: usize) -> Entry
+    requires { ⌜ listNeed list (e + 1) ≤ length (now probe) ⌝ }
+    ensures { λ r. ⌜ r ≡ entryAt (now (probe .entry)) list e ⌝ }
+{
+    let at = LIST * list + ENTRY * e;
+    Entry {
+        last: probe[at],
+        probe: probe[at + 1],
+    }
+}
+
+pub fn put_entry(probe: &mut [u32], list: usize, e: usize, x: Entry)
+    requires { ⌜ listNeed list (e + 1) ≤ length (now probe) ⌝ }
+    ensures { λ _. ⌜ now (probe .exit) ≡ putEntry list e x (now (probe .entry)) ⌝ }
+{
+    let at = LIST * list + ENTRY * e;
+    probe[at] = x.last;
+    probe[at + 1] = x.probe;
+}
+
+// Pair number w: two row numbers, and the items of the rows.
+pub fn put_pair(out: &mut [u32], w: usize, a: u32, b: u32, of_a: Item)
+    requires { ⌜ pairsNeed (w + 1) ≤ length (now out) ⌝ }
+    ensures { λ _. ⌜ now (out .exit) ≡ putPair w (record { a = a; b = b; key = «of_a» .key }) (now (out .entry)) ⌝ }
+{
+    let at = PAIR * w;
+    out[at] = a;
+    out[at + 1] = b;
+    out[at + 2] = of_a.key;
+}

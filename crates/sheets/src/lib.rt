@@ -1,0 +1,3 @@
+// The sheets: lent words that hold rows, probe lists and pairs.
+pub mod layout;
+pub mod rows;

@@ -1,0 +1,89 @@
+-- Laws of counting and choosing, and the tests as a ruleset for omega. By induction on the count or the list.
+-- Assumes nothing.
+use mathlib.Core.Path.{_≡_, refl, sym, _∙_}
+use mathlib.Core.Bool.{Bool, true, false, cond}
+use mathlib.Core.Logic.{_≢_}
+use mathlib.Core.List.{List, [], _∷_, _++_}
+use Prim.Native.Nat.{ℕ, zero, suc, _+_, _≤_, _<_}
+use native.Mathlib.Omega.{arith}
+use lib.Dec.{eqb}
+use lib.ListN.{length, length-append, length-set, getD, set, List·getD-append}
+use lib.Seq.{getD-at, ext-getD, getD-set-same, getD-set-other}
+use borrow.Author.Tests.{ltb-true, ltb-false, leb-true, leb-false, eqb-true, eqb-false}
+use Rattle.stamps.specs.Counting.{bit, tally, top, values, keep}
+
+pub eqb-ne : (i j : ℕ) → eqb i j ≡ false → i ≢ j
+eqb-ne i j = eqb-false i j
+
+pub ruleset tests = (ltb-true, ltb-false, leb-true, leb-false, eqb-true, eqb-ne)
+
+pub bit-le : (u : Bool) → bit u ≤ 1
+bit-le true = omega arith
+bit-le false = omega arith
+
+-- ---- tally
+
+pub tally-le : (t : ℕ → Bool) (n : ℕ) → tally t n ≤ n
+tally-le t zero = omega arith
+tally-le t (suc n) = omega (arith, tally-le t n, bit-le (t n))
+
+pub tally-cong : (t u : ℕ → Bool) (n : ℕ) → ((i : ℕ) → i < n → t i ≡ u i) → tally t n ≡ tally u n
+tally-cong t u zero h = refl
+tally-cong t u (suc n) h = rw (h n (omega arith), tally-cong t u n (λ i k. h i (omega arith)))
+
+-- ---- top
+
+pub top-le : (f : ℕ → ℕ) (n c : ℕ) → ((i : ℕ) → i < n → f i ≤ c) → top f n ≤ c
+top-le f zero c h = omega arith
+top-le f (suc n) c h = omega (arith, h n (omega arith), top-le f n c (λ i k. h i (omega arith)))
+
+pub le-top : (f : ℕ → ℕ) (n i : ℕ) → i < n → f i ≤ top f n
+le-top f zero i h = absurd (omega arith)
+le-top f (suc n) i h = go (eqb i n) refl (le-top f n i)
+  where
+    go : (u : Bool) → eqb i n ≡ u → (i < n → f i ≤ top f n) → f i ≤ top f (suc n)
+    go true e ih = rw (eqb-true i n e) (omega arith)
+    go false e ih = omega (arith, ih (omega (arith, tests)))
+
+-- ---- values
+
+pub length-values : {X : Type 0} (f : ℕ → X) (n : ℕ) → length (values f n) ≡ n
+unfolding values
+length-values f zero = refl
+length-values f (suc n) = length-append (values f n) (f n ∷ []) ∙ omega (arith, length-values f n)
+
+pub values-at : {X : Type 0} (f : ℕ → X) (n i : ℕ) (d : X) → i < n → getD (values f n) i d ≡ f i
+unfolding values
+values-at f zero i d h = absurd (omega arith)
+values-at f (suc n) i d h = go (eqb i n) refl (values-at f n i d)
+  where
+    go : (u : Bool) → eqb i n ≡ u → (i < n → getD (values f n) i d ≡ f i) → getD (values f n ++ (f n ∷ [])) i d ≡ f i
+    go true e ih = rw (eqb-true i n e) (getD-at (values f n) (f n) [] d n (length-values f n))
+    go false e ih = List·getD-append (values f n) (f n ∷ []) d i (rw length-values (omega (arith, tests))) ∙ ih (omega (arith, tests))
+
+pub values-cong : {X : Type 0} (f g : ℕ → X) (n : ℕ) → ((i : ℕ) → i < n → f i ≡ g i) → values f n ≡ values g n
+unfolding values
+values-cong f g zero h = refl
+values-cong f g (suc n) h = rw (h n (omega arith), values-cong f g n (λ i k. h i (omega arith)))
+
+-- one value changed
+pub set-values : (f : ℕ → ℕ) (n q v : ℕ) → set (values f n) q v ≡ values (λ i. cond (eqb i q) v (f i)) n
+set-values f n q v = ext-getD 0 _ _ (length-set (values f n) q v ∙ length-values f n ∙ sym (length-values _ n)) λ i h.
+    let b : i < n = rw (length-set, length-values) at h in at i b ∙ sym (values-at (λ i. cond (eqb i q) v (f i)) n i 0 b)
+  where
+    at : (i : ℕ) → i < n → getD (set (values f n) q v) i 0 ≡ cond (eqb i q) v (f i)
+    at i b = go (eqb i q) refl
+      where
+        go : (u : Bool) → eqb i q ≡ u → getD (set (values f n) q v) i 0 ≡ cond u v (f i)
+        go true e = rw (eqb-true i q e) (getD-set-same (values f n) q v 0 (rw length-values (omega (arith, tests))))
+        go false e = getD-set-other (values f n) q i v 0 (eqb-ne i q e) ∙ values-at f n i 0 b
+
+-- ---- keep
+
+pub keep-append : {X : Type 0} (t : X → Bool) (l m : List X) → keep t (l ++ m) ≡ keep t l ++ keep t m
+keep-append t [] m = refl
+keep-append t (x ∷ l) m = go (t x) (keep-append t l m)
+  where
+    go : (u : Bool) → keep t (l ++ m) ≡ keep t l ++ keep t m → cond u (x ∷ keep t (l ++ m)) (keep t (l ++ m)) ≡ cond u (x ∷ keep t l) (keep t l) ++ keep t m
+    go true e = rw e
+    go false e = e
