@@ -2,17 +2,19 @@
 -- By induction on the rows laid. Assumes nothing.
 use mathlib.Core.Path.{_≡_, refl, _∙_, fun-ext}
 use mathlib.Core.Bool.{Bool, true, false, cond}
-use mathlib.Core.List.{List}
-use Prim.Native.Nat.{ℕ, zero, suc, _≤_}
+use mathlib.Core.List.{List, [], _∷_, _++_}
+use Prim.Native.Nat.{ℕ, zero, suc, _+_, _≤_}
 use native.Mathlib.Omega.{arith}
 use lib.Dec.{ltb, eqb}
-use lib.ListN.{length, getD}
+use lib.ListN.{length, getD, length-append}
 use borrow.Author.Tests.{lt-ltb, eqb-true}
 use Rattle.stamps.specs.declared.Row.{Row}
+use Rattle.stamps.specs.declared.Entry.{Entry}
 use Rattle.stamps.specs.Counting.{upTo}
 use Rattle.stamps.specs.Counting.Laws.{tests}
-use Rattle.sheets.specs.Layout.{rowsNeed, rowAt, putRow}
+use Rattle.sheets.specs.Layout.{rowsNeed, rowAt, putRow, entryAt}
 use Rattle.sheets.specs.Layout.Laws.{length-putRow, row-same, row-other, row-beyond}
+use Rattle.sheets.specs.Lists.{entries, probedAt}
 use Rattle.sheets.specs.Rows.{lay}
 
 -- ---- rows laid over a sheet
@@ -47,3 +49,16 @@ rows-lay f n l h = fun-ext λ i. go i n h (ltb i n) refl
         last : (u : Bool) → eqb i n ≡ u → (ltb i n ≡ true → rowAt (lay f n l) i ≡ f i) → rowAt (putRow n (f n) (lay f n l)) i ≡ f i
         last true g ih = rw (eqb-true i n g) (row-same (lay f n l) n (f n) (rw length-lay b))
         last false g ih = row-other (lay f n l) n (f n) i (omega (arith, tests)) ∙ ih (lt-ltb i n (omega (arith, tests)))
+
+-- ---- probe lists
+
+pub probed-last : (clock : ℕ) (es : List Entry) (e : Entry) → probedAt clock (es ++ (e ∷ [])) ≡ eqb (e .probe) clock
+unfolding probedAt
+probed-last clock [] e = refl
+probed-last clock (f ∷ []) e = refl
+probed-last clock (f ∷ g ∷ es) e = probed-last clock (g ∷ es) e
+
+pub length-entries : (probe : List ℕ) (k n : ℕ) → length (entries probe k n) ≡ n
+unfolding entries
+length-entries probe k zero = refl
+length-entries probe k (suc n) = length-append (entries probe k n) (entryAt probe k n ∷ []) ∙ omega (arith, length-entries probe k n)

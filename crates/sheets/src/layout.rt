@@ -4,10 +4,10 @@ use stamps::Item;
 use stamps::Row;
 use stamps::Source;
 ghost use mathlib.Core.Path.{_≡_};
-ghost use Prim.Native.Nat.{_+_, _≤_};
+ghost use Prim.Native.Nat.{_+_, _≤_, _<_};
 ghost use lib.ListN.{length};
 ghost use Rattle.stamps.specs.Stamps.Laws.{stamp};
-ghost use Rattle.sheets.specs.Layout.{rowsNeed, rowAt, putRow, listNeed, entryAt, putEntry, pairsNeed, putPair};
+ghost use Rattle.sheets.specs.Layout.{rowsNeed, rowAt, putRow, listNo, listNeed, entryAt, putEntry, pairsNeed, putPair};
 
 const ROW: usize = 3;
 
@@ -62,6 +62,17 @@ pub fn put_dts(sheet: &mut [u32], row: usize, t: u32)
     ensures { λ _. ⌜ now (sheet .exit) ≡ putRow row (stamp t (rowAt (now (sheet .entry)) row)) (now (sheet .entry)) ⌝ }
 {
     sheet[ROW * row + 2] = t;
+}
+
+// The number of a portion's list: A's lists stand before B's.
+pub fn list_no(parts: u32, source: Source, part: u32) -> usize
+    requires { ⌜ (part < parts) × (parts ≤ 16) ⌝ }
+    ensures { λ r. ⌜ (r ≡ listNo parts source part) × (r < 32) ⌝ }
+{
+    match source {
+        Source::A => part as usize,
+        Source::B => (parts + part) as usize,
+    }
 }
 
 // Entry number e of a list.
