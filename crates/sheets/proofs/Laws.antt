@@ -1,21 +1,27 @@
 -- What the layers above may know of the sheets: what is laid is read back, and every other word stays.
 -- By induction on the rows laid. Assumes nothing.
-use mathlib.Core.Path.{_≡_, refl, _∙_, fun-ext}
-use mathlib.Core.Bool.{Bool, true, false, cond}
+use mathlib.Core.Path.{_≡_, refl, sym, ap₂, _∙_, fun-ext}
+use mathlib.Core.Bool.{Bool, true, false, cond, not, _&&_, and-true, and-false}
 use mathlib.Core.List.{List, [], _∷_, _++_}
 use Prim.Native.Nat.{ℕ, zero, suc, _+_, _≤_}
 use native.Mathlib.Omega.{arith}
 use lib.Dec.{ltb, eqb}
 use lib.ListN.{length, getD, length-append}
-use borrow.Author.Tests.{lt-ltb, eqb-true}
+use borrow.Author.Tests.{lt-ltb, eqb-true, eq-eqb, ne-eqb}
+use Rattle.stamps.specs.declared.Item.{Item}
 use Rattle.stamps.specs.declared.Row.{Row}
 use Rattle.stamps.specs.declared.Entry.{Entry}
-use Rattle.stamps.specs.Counting.{upTo}
+use Rattle.stamps.specs.Counting.{bit, upTo}
 use Rattle.stamps.specs.Counting.Laws.{tests}
+use Rattle.stamps.specs.Keys.{itemsMatch, partOf}
+use Rattle.stamps.specs.Keys.Laws.{match-part}
+use Rattle.stamps.specs.Stamps.{inMemory}
+use Rattle.stamps.specs.Stamps.Laws.{stamp}
 use Rattle.sheets.specs.Layout.{rowsNeed, rowAt, putRow, entryAt}
 use Rattle.sheets.specs.Layout.Laws.{length-putRow, row-same, row-other, row-beyond}
 use Rattle.sheets.specs.Lists.{entries, probedAt}
-use Rattle.sheets.specs.Rows.{lay}
+use Rattle.sheets.specs.Pairs.{met}
+use Rattle.sheets.specs.Rows.{hot, portionRows, flushed, lay}
 
 -- ---- rows laid over a sheet
 
@@ -62,3 +68,44 @@ pub length-entries : (probe : List ℕ) (k n : ℕ) → length (entries probe k 
 unfolding entries
 length-entries probe k zero = refl
 length-entries probe k (suc n) = length-append (entries probe k n) (entryAt probe k n ∷ []) ∙ omega (arith, length-entries probe k n)
+
+-- ---- the rows after a flush
+
+pub flushed-item : (parts q clock : ℕ) (f : ℕ → Row) (i : ℕ) → flushed parts q clock f i .item ≡ f i .item
+flushed-item parts q clock f i = go (hot parts q (f i)) (clock + portionRows parts q f (suc i))
+  where
+    go : (u : Bool) (t : ℕ) → cond u (stamp t (f i)) (f i) .item ≡ f i .item
+    go true t = refl
+    go false t = refl
+
+-- a flush leaves in memory what was there and is not of the portion
+pub flushed-memory : (parts q clock : ℕ) (f : ℕ → Row) (i : ℕ)
+    → inMemory (flushed parts q clock f i) ≡ (inMemory (f i) && not (eqb (partOf parts (f i .item)) q))
+flushed-memory parts q clock f i = go (inMemory (f i)) (eqb (partOf parts (f i .item)) q) refl refl
+  where
+    go : (u v : Bool) → inMemory (f i) ≡ u → eqb (partOf parts (f i .item)) q ≡ v
+        → inMemory (cond (u && v) (stamp (clock + (portionRows parts q f i + bit (u && v))) (f i)) (f i)) ≡ (u && not v)
+    go true true e g = ne-eqb (clock + (portionRows parts q f i + 1)) 0 (omega arith)
+    go true false e g = e
+    go false v e g = e
+
+-- ---- an arrival after a flush
+
+-- after a flush of the item's own partition no row that matches is in memory; a flush of another one changes nothing for it
+module _ (parts q clock : ℕ) (item : Item) (f : ℕ → Row) (i : ℕ) where
+  met-flushed : met item (flushed parts q clock f i) ≡ (itemsMatch item (f i .item) && (inMemory (f i) && not (eqb (partOf parts (f i .item)) q)))
+  met-flushed = ap₂ (λ (x : Item) (u : Bool). itemsMatch item x && u) (flushed-item parts q clock f i) (flushed-memory parts q clock f i)
+
+  pub met-gone : partOf parts item ≡ q → met item (flushed parts q clock f i) ≡ false
+  met-gone e = met-flushed ∙ go (itemsMatch item (f i .item)) refl
+    where
+      go : (u : Bool) → itemsMatch item (f i .item) ≡ u → (u && (inMemory (f i) && not (eqb (partOf parts (f i .item)) q))) ≡ false
+      go true m = rw (eq-eqb (partOf parts (f i .item)) q (sym (match-part parts item (f i .item) m) ∙ e), and-false)
+      go false m = refl
+
+  pub met-kept : (partOf parts item ≡ q → ⊥) → met item (flushed parts q clock f i) ≡ met item (f i)
+  met-kept e = met-flushed ∙ go (itemsMatch item (f i .item)) refl
+    where
+      go : (u : Bool) → itemsMatch item (f i .item) ≡ u → (u && (inMemory (f i) && not (eqb (partOf parts (f i .item)) q))) ≡ (u && inMemory (f i))
+      go true m = rw (ne-eqb (partOf parts (f i .item)) q (λ d. e (match-part parts item (f i .item) m ∙ d)), and-true)
+      go false m = refl

@@ -1,3 +1,4 @@
 pub mod Laws
 mod ListTurns
+mod PairTurns
 mod RowTurns

@@ -1,3 +1,4 @@
 pub mod Layout
 pub mod Lists
+pub mod Pairs
 pub mod Rows

@@ -8,6 +8,7 @@ ghost use Prim.Native.Nat.{_+_, _≤_, _<_};
 ghost use lib.ListN.{length};
 ghost use Rattle.stamps.specs.Stamps.Laws.{stamp};
 ghost use Rattle.sheets.specs.Layout.{rowsNeed, rowAt, putRow, listNo, listNeed, entryAt, putEntry, pairsNeed, putPair};
+ghost use Rattle.sheets.specs.Pairs.{tell};
 
 const ROW: usize = 3;
 
@@ -96,8 +97,8 @@ pub fn put_entry(probe: &mut [u32], list: usize, e: usize, x: Entry)
     probe[at + 1] = x.probe;
 }
 
-// Pair number w: two row numbers, and the items of the rows.
-pub fn put_pair(out: &mut [u32], w: usize, a: u32, b: u32, of_a: Item)
+// Pair number w.
+fn put_pair(out: &mut [u32], w: usize, a: u32, b: u32, of_a: Item)
     requires { ⌜ pairsNeed (w + 1) ≤ length (now out) ⌝ }
     ensures { λ _. ⌜ now (out .exit) ≡ putPair w (record { a = a; b = b; key = «of_a» .key }) (now (out .entry)) ⌝ }
 {
@@ -105,4 +106,15 @@ pub fn put_pair(out: &mut [u32], w: usize, a: u32, b: u32, of_a: Item)
     out[at] = a;
     out[at + 1] = b;
     out[at + 2] = of_a.key;
+}
+
+// Pair number w, of a row of the source and the row of the other source that faces it.
+pub fn put_told(out: &mut [u32], w: usize, source: Source, own: u32, facing: u32, own_item: Item, facing_item: Item)
+    requires { ⌜ pairsNeed (w + 1) ≤ length (now out) ⌝ }
+    ensures { λ _. ⌜ now (out .exit) ≡ putPair w (tell source (record { a = own; b = facing }) «own_item» «facing_item») (now (out .entry)) ⌝ }
+{
+    match source {
+        Source::A => put_pair(out, w, own, facing, own_item),
+        Source::B => put_pair(out, w, facing, own, facing_item),
+    }
 }

@@ -1,4 +1,6 @@
 // The sheets: lent words that hold rows, probe lists and pairs.
+pub mod arrivals;
 pub mod layout;
 pub mod lists;
+pub mod pairs;
 pub mod rows;

@@ -11,7 +11,7 @@ use lib.Seq.{sets, length-sets, getD-set-same, getD-set-other, set-getD}
 use Rattle.stamps.specs.declared.Row.{Row}
 use Rattle.stamps.specs.declared.Entry.{Entry}
 use Rattle.stamps.specs.Stamps.Laws.{stamp}
-use Rattle.sheets.specs.Layout.{rowsNeed, rowAt, rowWords, putRow, listNeed, entryAt, putEntry, Told, pairsNeed, pairAt, putPair}
+use Rattle.sheets.specs.Layout.{rowsNeed, rowAt, rowWords, putRow, listNeed, entryAt, putEntry, Told, pairsNeed, pairAt, pairWords, putPair}
 
 -- ---- a block of words
 
@@ -65,3 +65,28 @@ row-again l r = sets-again (rowWords (rowAt l r)) l (3 * r) word
     word (suc zero) p b e = let f : p ≡ 3 * r + 1 = omega arith in rw f
     word (suc (suc zero)) p b e = let f : p ≡ 3 * r + 2 = omega arith in rw f
     word (suc (suc (suc k))) p b e = absurd (omega arith)
+
+-- ---- pairs
+
+pub length-putPair : (w : ℕ) (x : Told) (o : List ℕ) → length (putPair w x o) ≡ length o
+unfolding putPair
+length-putPair w x o = length-sets o (3 * w) (pairWords x)
+
+pub pair-same : (o : List ℕ) (w : ℕ) (x : Told) → pairsNeed (suc w) ≤ length o → pairAt (putPair w x o) w ≡ x
+unfolding pairAt putPair
+pair-same o w x h = λ i. record { a = word 0 (3 * w) (omega arith) (omega arith) i; b = word 1 (3 * w + 1) refl (omega arith) i; key = word 2 (3 * w + 2) refl (omega arith) i }
+  where
+    word : (j p : ℕ) → p ≡ 3 * w + j → j < 3 → getD (sets o (3 * w) (pairWords x)) p 0 ≡ getD (pairWords x) j 0
+    word j p e b = sets-same (pairWords x) o (3 * w) j p e b (omega arith)
+
+pub pair-other : (o : List ℕ) (w : ℕ) (x : Told) (i : ℕ) → i ≢ w → pairAt (putPair w x o) i ≡ pairAt o i
+unfolding pairAt putPair
+pair-other o w x i d = λ k. record { a = word 0 (3 * i) (omega arith) (omega arith) k; b = word 1 (3 * i + 1) refl (omega arith) k; key = word 2 (3 * i + 2) refl (omega arith) k }
+  where
+    word : (j p : ℕ) → p ≡ 3 * i + j → j < 3 → getD (sets o (3 * w) (pairWords x)) p 0 ≡ getD o p 0
+    word j p e b = sets-other (pairWords x) o (3 * w) p (λ k c f. d (omega arith))
+
+-- a word beyond a pair's is as it was
+pub pair-beyond : (o : List ℕ) (w : ℕ) (x : Told) (p : ℕ) → pairsNeed (suc w) ≤ p → getD (putPair w x o) p 0 ≡ getD o p 0
+unfolding putPair
+pair-beyond o w x p h = sets-other (pairWords x) o (3 * w) p (λ k b e. omega arith)

@@ -1,0 +1,160 @@
+-- The turns of the loops that look for pairs and write them: each speaks of what is left, and the next spot is where as much is left.
+-- Assumes nothing.
+use mathlib.Core.Path.{_≡_, refl, sym, ap, _∙_}
+use mathlib.Core.Bool.{Bool, true, false, cond, not, _&&_, and-false}
+use mathlib.Core.List.{List, [], _∷_, _++_}
+use Prim.Native.Nat.{ℕ, zero, suc, _+_, _*_, _-_, _≤_, _<_}
+use native.Mathlib.Nat.{add-zero, sub-zero}
+use native.Mathlib.Omega.{arith}
+use native.Mathlib.Numerals.{add-one}
+use lib.Dec.{ltb, eqb}
+use lib.ListN.{length, take}
+use borrow.Author.Count.{below-more}
+use borrow.Author.Tests.{ne-eqb}
+use Rattle.stamps.specs.declared.Source.{Source}
+use Rattle.stamps.specs.declared.Item.{Item}
+use Rattle.stamps.specs.declared.Row.{Row}
+use Rattle.stamps.specs.declared.Entry.{Entry}
+use Rattle.stamps.specs.Counting.{tally, keep}
+use Rattle.stamps.specs.Counting.Laws.{tests, keep-append, tally-cong}
+use Rattle.stamps.specs.Keys.{itemsMatch, partOf}
+use Rattle.stamps.specs.Keys.Laws.{match-part}
+use Rattle.stamps.specs.Stamps.{inMemory, doneBefore}
+use Rattle.stamps.specs.Stamps.Laws.{stamp}
+use Rattle.sheets.specs.Layout.{pairsNeed, rowAt, Told, putPair}
+use Rattle.sheets.specs.Layout.Laws.{length-putPair}
+use Rattle.sheets.specs.Rows.{hot, portionRows, flushed}
+use Rattle.sheets.proofs.Laws.{met-gone, met-kept}
+use Rattle.sheets.specs.Pairs.{Pair, across, down, met, arrivalPairs, tell, tellAll, putFrom, NextIs}
+
+-- ---- pairs handed out one by one: xs is what is left of all
+
+pub record Handing (all xs : List Told) (o out : List ℕ) (w : ℕ) : Type 0 where
+  pub sum : w + length xs ≡ length all
+  pub long : length out ≡ length o
+  pub rest : putFrom w xs out ≡ putFrom 0 all o
+
+pub handing-first : (all : List Told) (o : List ℕ) → Handing all all o o 0
+handing-first all o = record { sum = omega arith; long = refl; rest = refl }
+
+module _ (all : List Told) (o out : List ℕ) (w : ℕ) where
+  pub handing-next : (x : Told) (xs : List Told) (out′ : List ℕ) → Handing all (x ∷ xs) o out w → out′ ≡ putPair w x out → Handing all xs o out′ (w + 1)
+  unfolding putFrom
+  handing-next x xs out′ h e = record {
+      sum = omega (arith, h .sum);
+      long = ap length e ∙ length-putPair w x out ∙ h .long;
+      rest = rw (add-one w, e) (h .rest) }
+
+  pub handing-room : (x : Told) (xs : List Told) → Handing all (x ∷ xs) o out w → pairsNeed (length all) ≤ length o → pairsNeed (w + 1) ≤ length out
+  handing-room x xs h b = omega (arith, h .sum, h .long)
+
+  pub handing-end : Handing all [] o out w → (w ≡ length all) × (out ≡ putFrom 0 all o)
+  unfolding putFrom
+  handing-end h = (omega (arith, h .sum), h .rest)
+
+pub length-tellAll : (s : Source) (x y : ℕ → Item) (ps : List Pair) → length (tellAll s x y ps) ≡ length ps
+length-tellAll s x y [] = refl
+length-tellAll s x y (p ∷ ps) = ap suc (length-tellAll s x y ps)
+
+-- ---- an arrival
+
+-- the pairs of the new row with the rows from j on
+abbrev pub ahead : ℕ → Item → (ℕ → Row) → ℕ → ℕ → List Pair
+ahead i item g m j = keep (λ p. met item (g (p .b))) (across i j (m - j))
+
+module _ (i : ℕ) (item : Item) (g : ℕ → Row) (m j : ℕ) where
+  pub ahead-one : j < m → met item (g j) ≡ true → ahead i item g m j ≡ record { a = i; b = j } ∷ ahead i item g m (j + 1)
+  ahead-one h e = let k : m - j ≡ suc (m - suc j) = omega arith in rw (k, add-one j, e)
+
+  pub ahead-none : j < m → met item (g j) ≡ false → ahead i item g m j ≡ ahead i item g m (j + 1)
+  ahead-none h e = let k : m - j ≡ suc (m - suc j) = omega arith in rw (k, add-one j, e)
+
+  pub ahead-end : m ≤ j → ahead i item g m j ≡ []
+  ahead-end h = let k : m - j ≡ 0 = omega arith in rw k
+
+pub ahead-all : (i : ℕ) (item : Item) (g : ℕ → Row) (m : ℕ) → ahead i item g m 0 ≡ arrivalPairs i item g m
+unfolding arrivalPairs
+ahead-all i item g m = rw sub-zero
+
+-- what is written, then what is ahead, is the whole
+pub record Arriving (s : Source) (new : ℕ) (item : Item) (g : ℕ → Row) (m : ℕ) (o out : List ℕ) (j w : ℕ) : Type 0 where
+  pub few : w ≤ j
+  pub hands : Handing (tellAll s (λ i. item) (λ k. g k .item) (arrivalPairs new item g m)) (tellAll s (λ i. item) (λ k. g k .item) (ahead new item g m j)) o out w
+
+pub arriving-first : (s : Source) (new : ℕ) (item : Item) (g : ℕ → Row) (m : ℕ) (o : List ℕ) → Arriving s new item g m o o 0 0
+arriving-first s new item g m o = record { few = omega arith; hands = rw ahead-all (handing-first _ o) }
+
+module _ (s : Source) (new : ℕ) (item : Item) (g : ℕ → Row) (m : ℕ) (o out : List ℕ) (j w : ℕ) (h : Arriving s new item g m o out j w) where
+  pub arriving-one : (out′ : List ℕ) → j < m → met item (g j) ≡ true → out′ ≡ putPair w (tell s (record { a = new; b = j }) item (g j .item)) out
+      → Arriving s new item g m o out′ (j + 1) (w + 1)
+  arriving-one out′ b e k = record { few = omega (arith, h .few); hands = handing-next _ o out w _ _ out′ (rw (ahead-one new item g m j b e) at (h .hands)) k }
+
+  pub arriving-room : j < m → met item (g j) ≡ true → pairsNeed (length (arrivalPairs new item g m)) ≤ length o → pairsNeed (w + 1) ≤ length out
+  arriving-room b e k = handing-room _ o out w _ _ (rw (ahead-one new item g m j b e) at (h .hands)) (rw length-tellAll k)
+
+  pub arriving-none : j < m → met item (g j) ≡ false → Arriving s new item g m o out (j + 1) w
+  arriving-none b e = record { few = omega (arith, h .few); hands = rw (ahead-none new item g m j b e) at (h .hands) }
+
+  pub arriving-end : m ≤ j → out ≡ putFrom 0 (tellAll s (λ i. item) (λ k. g k .item) (arrivalPairs new item g m)) o
+  arriving-end b = handing-end _ o out w (rw (ahead-end new item g m j b) at (h .hands)) .1
+
+-- the count, told before the flush
+pub gone-none : (parts q : ℕ) (item : Item) (f : ℕ → Row) (n : ℕ) → partOf parts item ≡ q → (clock : ℕ) → 0 ≡ tally (λ j. met item (flushed parts q clock f j)) n
+gone-none parts q item f zero e clock = refl
+gone-none parts q item f (suc n) e clock = rw (← gone-none parts q item f n e clock, met-gone parts q clock item f n e)
+
+pub kept-count : (parts q : ℕ) (item : Item) (f : ℕ → Row) (n r : ℕ) → (partOf parts item ≡ q → ⊥) → r ≡ tally (λ j. met item (f j)) n
+    → (clock : ℕ) → r ≡ tally (λ j. met item (flushed parts q clock f j)) n
+kept-count parts q item f n r e h clock = h ∙ sym (tally-cong (λ j. met item (flushed parts q clock f j)) (λ j. met item (f j)) n λ j b. met-kept parts q clock item f j e)
+
+-- ---- looking for the next number that passes a test
+
+-- none from `from` on before j passes it
+pub record Passed (t : ℕ → Bool) (n from j : ℕ) : Type 0 where
+  pub from-le : from ≤ j
+  pub le-end : j ≤ n
+  pub none-between : (k : ℕ) → k < j → from ≤ k → t k ≡ false
+
+pub passed-first : (t : ℕ → Bool) (n from : ℕ) → from ≤ n → Passed t n from from
+passed-first t n from h = record { from-le = omega arith; le-end = h; none-between = λ k a b. absurd (omega arith) }
+
+module _ (t : ℕ → Bool) (n from j : ℕ) (h : Passed t n from j) where
+  pub passed-one : j < n → t j ≡ false → Passed t n from (j + 1)
+  passed-one b e = record { from-le = omega (arith, h .from-le); le-end = omega arith; none-between = below-more _ j (h .none-between) (λ _. e) }
+
+  pub passed-found : t j ≡ true → NextIs t n from j
+  passed-found e = record { from-le = h .from-le; le-end = h .le-end; none-between = h .none-between; is-next = λ _. e }
+
+  pub passed-end : n ≤ j → NextIs t n from n
+  passed-end b = record { from-le = omega (arith, h .from-le); le-end = omega arith; none-between = λ k a. h .none-between k (omega arith); is-next = λ c. absurd (omega arith) }
+
+-- from match to match, until one of them is open
+pub record Sought (m o : ℕ → Bool) (n from j : ℕ) : Type 0 where
+  pub passed : Passed (λ k. m k && o k) n from j
+  pub is-match : j < n → m j ≡ true
+
+module _ (m o : ℕ → Bool) (n from : ℕ) where
+  pub sought-first : (r : ℕ) → NextIs m n from r → Sought m o n from r
+  sought-first r h = record {
+      passed = record { from-le = h .from-le; le-end = h .le-end; none-between = λ k a b. rw (h .none-between k a b) };
+      is-match = h .is-next }
+
+  module _ (j : ℕ) (h : Sought m o n from j) where
+    pub sought-next : (r : ℕ) → j < n → o j ≡ false → NextIs m n (j + 1) r → Sought m o n from r
+    sought-next r b e x = record {
+        passed = record {
+          from-le = omega (arith, h .passed .from-le, x .from-le);
+          le-end = x .le-end;
+          none-between = λ k a c. between k a c (ltb k j) (ltb j k) refl refl };
+        is-match = x .is-next }
+      where
+        between : (k : ℕ) → k < r → from ≤ k → (u v : Bool) → ltb k j ≡ u → ltb j k ≡ v → (m k && o k) ≡ false
+        between k a c true v p q = h .passed .none-between k (omega (arith, tests)) c
+        between k a c false true p q = rw (x .none-between k a (omega (arith, tests)))
+        between k a c false false p q = let s : k ≡ j = omega (arith, tests) in rw (s, e, and-false)
+
+    pub sought-found : j < n → o j ≡ true → NextIs (λ k. m k && o k) n from j
+    sought-found b e = passed-found _ n from j (h .passed) (rw (h .is-match b, e))
+
+    pub sought-end : n ≤ j → NextIs (λ k. m k && o k) n from n
+    sought-end b = passed-end _ n from j (h .passed) b

@@ -1,0 +1,23 @@
+-- `sheets::arrivals::count_met_after` meets its contract: rows that match are of the item's partition, so a flush of it leaves none, and a flush of another leaves all.
+-- Assumes nothing.
+use borrow.Author.Needs.{needs}
+use mathlib.Core.Path.{sym, _∙_}
+use Rattle.sheets.proofs.PairTurns.{gone-none, kept-count}
+use Rattle.sheets.specs.Layout.{rowAt}
+use Rattle.sheets.proofs.arrivals.count_met_after.Statement.{statement}
+use Rattle.sheets.proofs.arrivals.count_met_after.Tie as tie
+
+part-of-requires : tie.Need-part-of-requires
+part-of-requires c κs = search needs
+
+returns : tie.Need-returns
+returns c = gone-none _ _ _ (rowAt (c .before .before .before .args .sheet .now)) (c .before .before .before .args .rows) (sym (c .before .part-of .ensures .0) ∙ c .if1 .taken)
+
+count-met-requires : tie.Need-count-met-requires
+count-met-requires c κs = search needs
+
+returns-2 : tie.Need-returns-2
+returns-2 c = kept-count _ _ _ (rowAt (c .before .before .before .before .args .sheet .now)) (c .before .before .before .before .args .rows) _ (λ e. c .before .if1 .left (c .before .before .part-of .ensures .0 ∙ e)) (c .count-met .ensures)
+
+pub count-met-after-spec : {M : Type 1} → statement M
+count-met-after-spec = tie.close (tie.spec part-of-requires returns count-met-requires returns-2)

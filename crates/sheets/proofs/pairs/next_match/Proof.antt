@@ -1,0 +1,55 @@
+-- `sheets::pairs::next_match` meets its contract: no row passed so far matches.
+-- Assumes nothing.
+use borrow.Author.Needs.{needs}
+use Prim.Native.Nat.{_-_}
+use mathlib.Core.Path.{sym, ap, _∙_}
+use Rattle.stamps.specs.Keys.{itemsMatch}
+use Rattle.sheets.specs.Layout.{rowAt}
+use Rattle.sheets.proofs.PairTurns.{Passed, passed-first, passed-one, passed-found, passed-end}
+use Rattle.sheets.proofs.pairs.next_match.Statement.{statement}
+use Rattle.sheets.proofs.pairs.next_match.Tie as tie
+
+abbrev Inv-loop : tie.InvT-loop
+Inv-loop sheet rows from item j₀ j = Passed (λ k. itemsMatch item (rowAt sheet k .item)) rows from j
+
+abbrev μ-loop : tie.MeasureT-loop
+μ-loop sheet rows from item j₀ j = rows - j
+
+loop-holds : tie.Need-loop-holds Inv-loop μ-loop
+loop-holds c = passed-first _ _ _ (c .before .pre .1)
+
+item-at-requires : tie.Need-item-at-requires Inv-loop μ-loop
+item-at-requires c κs = search needs
+
+items-match-requires : tie.Need-items-match-requires Inv-loop μ-loop
+items-match-requires c κs = search needs
+
+returns : tie.Need-returns Inv-loop μ-loop
+returns c = passed-found _ _ _ _ (c .before .before .before .before .loop .inv) (ap (itemsMatch _) (sym (c .before .before .item-at .ensures)) ∙ sym (c .before .items-match .ensures) ∙ c .if1 .taken)
+
+add-j : tie.Need-add-j Inv-loop μ-loop
+add-j c = search needs
+
+loop-less : tie.Need-loop-less Inv-loop μ-loop
+loop-less c = search needs
+
+loop-again : tie.Need-loop-again Inv-loop μ-loop
+loop-again c = passed-one _ _ _ _ (c .before .before .before .before .loop .inv) (c .before .before .before .loop-test .taken) (ap (itemsMatch _) (sym (c .before .before .item-at .ensures)) ∙ sym (c .before .items-match .ensures) ∙ c .if1 .left)
+
+returns-2 : tie.Need-returns-2 Inv-loop μ-loop
+returns-2 c = passed-end _ _ _ _ (c .before .loop .inv) (c .loop-test .left)
+
+pub next-match-spec : {M : Type 1} → statement M
+next-match-spec =
+    tie.close
+    (tie.spec
+    Inv-loop
+    μ-loop
+    loop-holds
+    item-at-requires
+    items-match-requires
+    returns
+    add-j
+    loop-less
+    loop-again
+    returns-2)

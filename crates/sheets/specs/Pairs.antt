@@ -1,0 +1,181 @@
+-- Pairs of rows: which are written by an arrival, a run and a drain, and in what order.
+-- All is said for source A with B across from it. For B it is the same with the two in each other's place.
+use mathlib.Core.Path.{_≡_}
+use mathlib.Core.Bool.{Bool, true, false, not, cond, _&&_}
+use mathlib.Core.List.{List, [], _∷_, _++_}
+use Prim.Native.Nat.{ℕ, zero, suc, _+_, _*_, _-_, _≤_, _<_}
+use lib.Dec.{ltb, leb}
+use lib.ListN.{length, take, getD}
+use Rattle.stamps.specs.declared.Source.{Source}
+use Rattle.stamps.specs.declared.Source.the-variants.{A, B}
+use Rattle.stamps.specs.declared.Item.{Item}
+use Rattle.stamps.specs.declared.Row.{Row}
+use Rattle.stamps.specs.declared.Entry.{Entry}
+use Rattle.stamps.specs.Counting.{keep}
+use Rattle.stamps.specs.Keys.{itemsMatch, partOf}
+use Rattle.stamps.specs.Sources.{other}
+use Rattle.stamps.specs.Stamps.{inMemory, doneBefore}
+use Rattle.sheets.specs.Layout.{rowsNeed, rowAt, probeNeed, Told, putPair}
+use Rattle.sheets.specs.Lists.{listOf}
+use Rattle.sheets.specs.Rows.{spooled}
+use Rattle.sheets.specs.declared.pairs.Job.{Job}
+use Rattle.sheets.specs.declared.pairs.Written.{Written}
+use Rattle.sheets.specs.declared.pairs.Scope.{Scope}
+use Rattle.sheets.specs.declared.pairs.Scope.the-variants.{All, Portion}
+
+-- ---- what the sheets hold
+
+-- of one source: how many rows, the rows by number, the probe lists by partition
+pub record Side : Type 0 where
+  pub count : ℕ
+  pub row : ℕ → Row
+  pub list : ℕ → List Entry
+
+pub record Table : Type 0 where
+  pub parts : ℕ
+  pub a : Side
+  pub b : Side
+
+-- ---- pairs, in document 01's order
+
+pub record Pair : Type 0 where
+  pub a : ℕ
+  pub b : ℕ
+
+-- row i of A with m rows of B from row j on
+abbrev pub across : ℕ → ℕ → ℕ → List Pair
+across i j zero = []
+across i j (suc m) = record { a = i; b = j } ∷ across i (suc j) m
+
+-- n rows of A from row i on, each with the first m rows of B: "by A row, then B row"
+abbrev pub down : ℕ → ℕ → ℕ → List Pair
+down i zero m = []
+down i (suc n) m = across i 0 m ++ down (suc i) n m
+
+abbrev pub every : Table → List Pair
+every t = down 0 (t .a .count) (t .b .count)
+
+-- "pair (a, b) has position a x (B rows) + b"
+abbrev pub position : Table → Pair → ℕ
+position t p = p .a * t .b .count + p .b
+
+-- ---- what is said of a pair
+
+abbrev pub rowA : Table → Pair → Row
+rowA t p = t .a .row (p .a)
+
+abbrev pub rowB : Table → Pair → Row
+rowB t p = t .b .row (p .b)
+
+abbrev pub matches : Table → Pair → Bool
+matches t p = itemsMatch (rowA t p .item) (rowB t p .item)
+
+abbrev pub done : Table → Pair → Bool
+done t p = doneBefore (t .a .list (partOf (t .parts) (rowA t p .item))) (t .b .list (partOf (t .parts) (rowB t p .item))) (rowA t p) (rowB t p)
+
+-- ---- an arrival at A: "the new row with each memory row of the other source that matches, ascending"
+
+abbrev pub met : Item → Row → Bool
+met item r = itemsMatch item (r .item) && inMemory r
+
+-- i is the new row's number; g gives the m rows of the other source
+unfoldable pub arrivalPairs : ℕ → Item → (ℕ → Row) → ℕ → List Pair
+arrivalPairs i item g m = keep (λ p. met item (g (p .b))) (across i 0 m)
+
+-- ---- runs and drains
+
+-- the rows of A that are looked at: all, or the spooled rows of a portion; and the rows of B across from them: all, or those in memory
+abbrev pub takes : Scope → ℕ → Row → Bool
+takes All parts r = true
+takes (Portion q) parts r = spooled parts q r
+
+abbrev pub meets : Scope → Row → Bool
+meets All r = true
+meets (Portion q) r = inMemory r
+
+-- of two rows, with the lists of their portions: "A matching pair is written unless it was done before"
+abbrev pub due : Scope → List Entry → List Entry → Row → Row → Bool
+due scope ex ey x y = itemsMatch (x .item) (y .item) && (meets scope y && not (doneBefore ex ey x y))
+
+unfoldable pub wanted : Scope → Table → Pair → Bool
+wanted scope t p =
+    takes scope (t .parts) (rowA t p)
+    && due scope (t .a .list (partOf (t .parts) (rowA t p .item))) (t .b .list (partOf (t .parts) (rowB t p .item))) (rowA t p) (rowB t p)
+
+-- the pairs of a run on A's portion q: "each spooled row, ascending, is tried against each memory row of the other source, ascending"
+abbrev pub runPairs : ℕ → Table → List Pair
+runPairs q t = keep (wanted (Portion q) t) (every t)
+
+-- what a drain has still to write: "Matching pairs not done before, from the drain position on"
+abbrev pub owedPairs : ℕ → Table → List Pair
+owedPairs from t = keep (λ p. leb from (position t p) && wanted All t p) (every t)
+
+-- ---- pairs in an output
+
+-- what is written of a pair of rows with these items, for source A; for B with the rows in each other's place
+abbrev pub tell : Source → Pair → Item → Item → Told
+tell A p x y = record { a = p .a; b = p .b; key = x .key }
+tell B p x y = record { a = p .b; b = p .a; key = y .key }
+
+abbrev pub tellAll : Source → (ℕ → Item) → (ℕ → Item) → List Pair → List Told
+tellAll s x y [] = []
+tellAll s x y (p ∷ ps) = tell s p (x (p .a)) (y (p .b)) ∷ tellAll s x y ps
+
+-- written one after the other from pair number w on, every other word as it was
+unfoldable pub putFrom : ℕ → List Told → List ℕ → List ℕ
+putFrom w [] o = o
+putFrom w (x ∷ xs) o = putFrom (suc w) xs (putPair w x o)
+
+-- ---- a job: what a run or a drain works on
+
+-- own is the sheet of the job's source, and stands for A; facing is the other's
+abbrev pub tableOf : Job → List ℕ → List ℕ → List ℕ → List ℕ → Table
+tableOf j own facing probe counts = record {
+    parts = j .parts;
+    a = record { count = j .rows; row = rowAt own; list = listOf (j .parts) counts probe (j .source) };
+    b = record { count = j .others; row = rowAt facing; list = listOf (j .parts) counts probe (other (j .source)) } }
+
+-- what the callers have checked
+pub record Ready (j : Job) (own facing probe counts : List ℕ) : Type 0 where
+  pub own-few : j .rows ≤ 4096
+  pub facing-few : j .others ≤ 4096
+  pub own-long : rowsNeed (j .rows) ≤ length own
+  pub facing-long : rowsNeed (j .others) ≤ length facing
+  pub some-parts : 0 < j .parts
+  pub few-parts : j .parts ≤ 16
+  pub probe-long : probeNeed (j .parts) ≤ length probe
+  pub short : (k : ℕ) → k < 2 * j .parts → getD counts k 0 ≤ 32
+
+-- the first number from `from` on that passes a test, or n
+pub record NextIs (t : ℕ → Bool) (n from r : ℕ) : Type 0 where
+  pub from-le : from ≤ r
+  pub le-end : r ≤ n
+  pub none-between : (k : ℕ) → k < r → from ≤ k → t k ≡ false
+  pub is-next : r < n → t r ≡ true
+
+-- what is left from row i of A and row j of B on, by rows
+abbrev pub leftRows : ℕ → ℕ → ℕ → ℕ → List Pair
+leftRows m i j zero = []
+leftRows m i j (suc k) = across i j (m - j) ++ down (suc i) k m
+
+abbrev pub leftFrom : Scope → Table → ℕ → ℕ → List Pair
+leftFrom scope t i j = keep (wanted scope t) (leftRows (t .b .count) i j (t .a .count - i))
+
+-- the next wanted pair from (i, j) on, or the end
+pub record SpotIs (scope : Scope) (t : Table) (i j i′ j′ : ℕ) : Type 0 where
+  pub none-between : leftFrom scope t i j ≡ leftFrom scope t i′ j′
+  pub in-rows : i′ ≤ t .a .count
+  pub in-row : i′ < t .a .count → j′ < t .b .count
+  pub is-wanted : i′ < t .a .count → wanted scope t (record { a = i′; b = j′ }) ≡ true
+
+-- "one past the last pair written", k if none was
+abbrev pub past : Table → ℕ → List Pair → ℕ
+past t k [] = k
+past t k (p ∷ ps) = past t (suc (position t p)) ps
+
+-- as many of the pairs as there is room for are written; "If any remain, the position becomes one past the last pair written .. if none remains, it becomes (A rows) x (B rows)"
+pub record Writes (s : Source) (t : Table) (ps : List Pair) (from room : ℕ) (o o′ : List ℕ) (r : Written) : Type 0 where
+  pub pairs : r .pairs ≡ length (take room ps)
+  pub more : r .more ≡ ltb room (length ps)
+  pub next : r .next ≡ cond (ltb room (length ps)) (past t from (take room ps)) (t .a .count * t .b .count)
+  pub out : o′ ≡ putFrom 0 (tellAll s (λ i. t .a .row i .item) (λ i. t .b .row i .item) (take room ps)) o

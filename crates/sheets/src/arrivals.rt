@@ -1,0 +1,59 @@
+// The pairs of an arrival: the new row with each matching memory row of the other source.
+use crate::layout::{dts_at, item_at, put_told};
+use stamps::{Item, Source};
+ghost use mathlib.Core.Path.{_≡_};
+ghost use Prim.Native.Nat.{ℕ, _≤_, _<_};
+ghost use lib.ListN.{length};
+ghost use Rattle.stamps.specs.Counting.{tally};
+ghost use Rattle.sheets.specs.Layout.{rowsNeed, pairsNeed, rowAt};
+ghost use Rattle.sheets.specs.Pairs.{met, arrivalPairs, tellAll, putFrom};
+ghost use Rattle.sheets.specs.Rows.{flushed};
+
+pub fn count_met(sheet: &[u32], rows: usize, item: Item) -> usize
+    requires { ⌜ rowsNeed rows ≤ length (now sheet) ⌝ }
+    ensures { λ r. ⌜ r ≡ tally (λ j. met item (rowAt (now (sheet .entry)) j)) rows ⌝ }
+{
+    let mut count: usize = 0;
+    let mut i: usize = 0;
+    while i < rows {
+        let row = i;
+        i += 1;
+        if stamps::items_match(item, item_at(sheet, row)) {
+            if dts_at(sheet, row) == 0 {
+                count += 1;
+            }
+        }
+    }
+    count
+}
+
+// As count_met, after a flush of the sheet's portion part. Matching rows are of the item's own partition.
+pub fn count_met_after(sheet: &[u32], rows: usize, item: Item, parts: u32, part: u32) -> usize
+    requires { ⌜ (rowsNeed rows ≤ length (now sheet)) × (0 < parts) ⌝ }
+    ensures { λ r. ⌜ ((clock : ℕ) → r ≡ tally (λ j. met item (flushed parts part clock (rowAt (now (sheet .entry))) j)) rows) ⌝ }
+{
+    if stamps::part_of(parts, item) == part {
+        return 0;
+    }
+    count_met(sheet, rows, item)
+}
+
+// Writes the pairs of row new of the source, whose item this is; sheet is the other source's.
+pub fn write_met(sheet: &[u32], rows: usize, item: Item, source: Source, new: u32, out: &mut [u32])
+    requires { ⌜ (rowsNeed rows ≤ length (now sheet)) × (rows ≤ 4096) × (pairsNeed (length (arrivalPairs new item (rowAt (now sheet)) rows)) ≤ length (now out)) ⌝ }
+    ensures { λ _. ⌜ now (out .exit) ≡ putFrom 0 (tellAll source (λ i. item) (λ j. rowAt (now (sheet .entry)) j .item) (arrivalPairs new item (rowAt (now (sheet .entry))) rows)) (now (out .entry)) ⌝ }
+{
+    let mut w: usize = 0;
+    let mut i: usize = 0;
+    while i < rows {
+        let row = i;
+        i += 1;
+        let facing = item_at(sheet, row);
+        if stamps::items_match(item, facing) {
+            if dts_at(sheet, row) == 0 {
+                put_told(out, w, source, new, row as u32, item, facing);
+                w += 1;
+            }
+        }
+    }
+}
