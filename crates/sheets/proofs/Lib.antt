@@ -1,3 +1,4 @@
+mod GridTurns
 pub mod Laws
 mod ListTurns
 mod PairTurns

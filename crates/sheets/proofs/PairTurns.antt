@@ -1,6 +1,6 @@
 -- The turns of the loops that look for pairs and write them: each speaks of what is left, and the next spot is where as much is left.
 -- Assumes nothing.
-use mathlib.Core.Path.{_≡_, refl, sym, ap, _∙_}
+use mathlib.Core.Path.{_≡_, refl, sym, ap, ap₂, _∙_}
 use mathlib.Core.Bool.{Bool, true, false, cond, not, _&&_, and-false}
 use mathlib.Core.List.{List, [], _∷_, _++_}
 use Prim.Native.Nat.{ℕ, zero, suc, _+_, _*_, _-_, _≤_, _<_}
@@ -8,24 +8,29 @@ use native.Mathlib.Nat.{add-zero, sub-zero}
 use native.Mathlib.Omega.{arith}
 use native.Mathlib.Numerals.{add-one}
 use lib.Dec.{ltb, eqb}
-use lib.ListN.{length, take}
+use lib.ListN.{length, take, getD}
 use borrow.Author.Count.{below-more}
-use borrow.Author.Tests.{ne-eqb}
+use borrow.Author.Tests.{lt-ltb}
 use Rattle.stamps.specs.declared.Source.{Source}
+use Rattle.stamps.specs.declared.Source.the-variants.{A, B}
 use Rattle.stamps.specs.declared.Item.{Item}
 use Rattle.stamps.specs.declared.Row.{Row}
 use Rattle.stamps.specs.declared.Entry.{Entry}
 use Rattle.stamps.specs.Counting.{tally, keep}
-use Rattle.stamps.specs.Counting.Laws.{tests, keep-append, tally-cong}
+use Rattle.stamps.specs.Counting.Laws.{tests, and-cong, keep-append, tally-cong}
 use Rattle.stamps.specs.Keys.{itemsMatch, partOf}
 use Rattle.stamps.specs.Keys.Laws.{match-part}
+use Rattle.stamps.specs.Sources.{other}
 use Rattle.stamps.specs.Stamps.{inMemory, doneBefore}
 use Rattle.stamps.specs.Stamps.Laws.{stamp}
-use Rattle.sheets.specs.Layout.{pairsNeed, rowAt, Told, putPair}
+use Rattle.sheets.specs.Layout.{pairsNeed, rowAt, listNo, listNeed, Told, putPair}
 use Rattle.sheets.specs.Layout.Laws.{length-putPair}
 use Rattle.sheets.specs.Rows.{hot, portionRows, flushed}
 use Rattle.sheets.proofs.Laws.{met-gone, met-kept}
-use Rattle.sheets.specs.Pairs.{Pair, across, down, met, arrivalPairs, tell, tellAll, putFrom, NextIs}
+use Rattle.sheets.specs.Pairs.{Pair, across, down, met, arrivalPairs, tell, tellAll, putFrom, takes, meets, due, wanted, tableOf, Ready, NextIs}
+use Rattle.sheets.specs.Lists.{entries, listOf}
+use Rattle.sheets.specs.declared.lists.ProbeList.{ProbeList}
+use Rattle.sheets.specs.declared.pairs.Job.{Job}
 
 -- ---- pairs handed out one by one: xs is what is left of all
 
@@ -41,9 +46,10 @@ module _ (all : List Told) (o out : List ℕ) (w : ℕ) where
   pub handing-next : (x : Told) (xs : List Told) (out′ : List ℕ) → Handing all (x ∷ xs) o out w → out′ ≡ putPair w x out → Handing all xs o out′ (w + 1)
   unfolding putFrom
   handing-next x xs out′ h e = record {
-      sum = omega (arith, h .sum);
-      long = ap length e ∙ length-putPair w x out ∙ h .long;
-      rest = rw (add-one w, e) (h .rest) }
+    sum = omega (arith, h .sum);
+    long = ap length e ∙ length-putPair w x out ∙ h .long;
+    rest = rw (add-one w, e) (h .rest);
+  }
 
   pub handing-room : (x : Told) (xs : List Told) → Handing all (x ∷ xs) o out w → pairsNeed (length all) ≤ length o → pairsNeed (w + 1) ≤ length out
   handing-room x xs h b = omega (arith, h .sum, h .long)
@@ -136,17 +142,20 @@ pub record Sought (m o : ℕ → Bool) (n from j : ℕ) : Type 0 where
 module _ (m o : ℕ → Bool) (n from : ℕ) where
   pub sought-first : (r : ℕ) → NextIs m n from r → Sought m o n from r
   sought-first r h = record {
-      passed = record { from-le = h .from-le; le-end = h .le-end; none-between = λ k a b. rw (h .none-between k a b) };
-      is-match = h .is-next }
+    passed = record { from-le = h .from-le; le-end = h .le-end; none-between = λ k a b. rw (h .none-between k a b) };
+    is-match = h .is-next;
+  }
 
   module _ (j : ℕ) (h : Sought m o n from j) where
     pub sought-next : (r : ℕ) → j < n → o j ≡ false → NextIs m n (j + 1) r → Sought m o n from r
     sought-next r b e x = record {
-        passed = record {
-          from-le = omega (arith, h .passed .from-le, x .from-le);
-          le-end = x .le-end;
-          none-between = λ k a c. between k a c (ltb k j) (ltb j k) refl refl };
-        is-match = x .is-next }
+      passed = record {
+        from-le = omega (arith, h .passed .from-le, x .from-le);
+        le-end = x .le-end;
+        none-between = λ k a c. between k a c (ltb k j) (ltb j k) refl refl;
+      };
+      is-match = x .is-next;
+    }
       where
         between : (k : ℕ) → k < r → from ≤ k → (u v : Bool) → ltb k j ≡ u → ltb j k ≡ v → (m k && o k) ≡ false
         between k a c true v p q = h .passed .none-between k (omega (arith, tests)) c
@@ -158,3 +167,54 @@ module _ (m o : ℕ → Bool) (n from : ℕ) where
 
     pub sought-end : n ≤ j → NextIs (λ k. m k && o k) n from n
     sought-end b = passed-end _ n from j (h .passed) b
+
+-- ---- one row of a job
+
+pub next-cong : (t u : ℕ → Bool) (n from r : ℕ) → ((k : ℕ) → t k ≡ u k) → NextIs u n from r → NextIs t n from r
+next-cong t u n from r e h = record {
+  from-le = h .from-le;
+  le-end = h .le-end;
+  none-between = λ k a b. e k ∙ h .none-between k a b;
+  is-next = λ a. e r ∙ h .is-next a;
+}
+
+module _ (job : Job) (own facing probe counts : List ℕ) (i : ℕ) where
+  abbrev rowWanted : ℕ → Bool
+  rowWanted k = wanted (job .scope) (tableOf job own facing probe counts) (record { a = i; b = k })
+
+  -- a row that is not looked at
+  pub next-left-out : (from : ℕ) → from ≤ job .others → takes (job .scope) (job .parts) (rowAt own i) ≡ false → NextIs rowWanted (job .others) from (job .others)
+  unfolding wanted
+  next-left-out from h e = record { from-le = h; le-end = omega arith; none-between = λ k a b. rw e; is-next = λ a. absurd (omega arith) }
+
+  list-is : (s : Source) (p q : ℕ) (l : ProbeList) → p ≡ q → q < job .parts
+      → l ≡ record { number = listNo (job .parts) s q; size = getD counts (listNo (job .parts) s q) 0 } → listOf (job .parts) counts probe s p ≡ entries probe (l .number) (l .size)
+  unfolding listOf
+  list-is s p q l e b d = rw (e, lt-ltb q (job .parts) b, d)
+
+  -- rows that match are of one partition, so their lists are those of the row's own
+  pub next-taken : (q from r : ℕ) (mine theirs : ProbeList) → takes (job .scope) (job .parts) (rowAt own i) ≡ true
+      → q ≡ partOf (job .parts) (rowAt own i .item) → q < job .parts
+      → mine ≡ record { number = listNo (job .parts) (job .source) q; size = getD counts (listNo (job .parts) (job .source) q) 0 }
+      → theirs ≡ record { number = listNo (job .parts) (other (job .source)) q; size = getD counts (listNo (job .parts) (other (job .source)) q) 0 }
+      → NextIs (λ k. due (job .scope) (entries probe (mine .number) (mine .size)) (entries probe (theirs .number) (theirs .size)) (rowAt own i) (rowAt facing k)) (job .others) from r
+      → NextIs rowWanted (job .others) from r
+  unfolding wanted
+  next-taken q from r mine theirs e d b em et h = next-cong rowWanted _ (job .others) from r (λ k. rw e (and-cong (itemsMatch (rowAt own i .item) (rowAt facing k .item)) (same k))) h
+    where
+      same : (k : ℕ) → itemsMatch (rowAt own i .item) (rowAt facing k .item) ≡ true
+          → (meets (job .scope) (rowAt facing k) && not (doneBefore (listOf (job .parts) counts probe (job .source) (partOf (job .parts) (rowAt own i .item)))
+          (listOf (job .parts) counts probe (other (job .source)) (partOf (job .parts) (rowAt facing k .item))) (rowAt own i) (rowAt facing k)))
+          ≡ (meets (job .scope) (rowAt facing k) && not (doneBefore (entries probe (mine .number) (mine .size)) (entries probe (theirs .number) (theirs .size)) (rowAt own i) (rowAt facing k)))
+      same k m = ap₂ (λ (ex ey : List Entry). meets (job .scope) (rowAt facing k) && not (doneBefore ex ey (rowAt own i) (rowAt facing k)))
+          (list-is (job .source) _ q mine (sym d) b em)
+          (list-is (other (job .source)) _ q theirs (sym (match-part (job .parts) (rowAt own i .item) (rowAt facing k .item) m) ∙ sym d) b et)
+
+-- the entries that a list is said to have stand in the probe sheet
+pub list-fits : (job : Job) (own facing probe counts : List ℕ) (s : Source) (q : ℕ) (l : ProbeList) → Ready job own facing probe counts → q < job .parts
+    → l ≡ record { number = listNo (job .parts) s q; size = getD counts (listNo (job .parts) s q) 0 } → listNeed (l .number) (l .size) ≤ length probe
+list-fits job own facing probe counts s q l r b e = rw e (omega (arith, r .probe-long, list-small s, r .short (listNo (job .parts) s q) (list-small s)))
+  where
+    list-small : (s : Source) → listNo (job .parts) s q < 2 * job .parts
+    list-small A = omega arith
+    list-small B = omega arith

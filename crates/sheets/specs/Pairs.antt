@@ -131,9 +131,10 @@ putFrom w (x ∷ xs) o = putFrom (suc w) xs (putPair w x o)
 -- own is the sheet of the job's source, and stands for A; facing is the other's
 abbrev pub tableOf : Job → List ℕ → List ℕ → List ℕ → List ℕ → Table
 tableOf j own facing probe counts = record {
-    parts = j .parts;
-    a = record { count = j .rows; row = rowAt own; list = listOf (j .parts) counts probe (j .source) };
-    b = record { count = j .others; row = rowAt facing; list = listOf (j .parts) counts probe (other (j .source)) } }
+  parts = j .parts;
+  a = record { count = j .rows; row = rowAt own; list = listOf (j .parts) counts probe (j .source) };
+  b = record { count = j .others; row = rowAt facing; list = listOf (j .parts) counts probe (other (j .source)) };
+}
 
 -- what the callers have checked
 pub record Ready (j : Job) (own facing probe counts : List ℕ) : Type 0 where

@@ -1,6 +1,9 @@
 // The pairs of an arrival: the new row with each matching memory row of the other source.
-use crate::layout::{dts_at, item_at, put_told};
-use stamps::{Item, Source};
+use crate::layout::dts_at;
+use crate::layout::item_at;
+use crate::layout::put_told;
+use stamps::Item;
+use stamps::Source;
 ghost use mathlib.Core.Path.{_≡_};
 ghost use Prim.Native.Nat.{ℕ, _≤_, _<_};
 ghost use lib.ListN.{length};

@@ -109,7 +109,15 @@ fn put_pair(out: &mut [u32], w: usize, a: u32, b: u32, of_a: Item)
 }
 
 // Pair number w, of a row of the source and the row of the other source that faces it.
-pub fn put_told(out: &mut [u32], w: usize, source: Source, own: u32, facing: u32, own_item: Item, facing_item: Item)
+pub fn put_told(
+    out: &mut [u32],
+    w: usize,
+    source: Source,
+    own: u32,
+    facing: u32,
+    own_item: Item,
+    facing_item: Item,
+)
     requires { ⌜ pairsNeed (w + 1) ≤ length (now out) ⌝ }
     ensures { λ _. ⌜ now (out .exit) ≡ putPair w (tell source (record { a = own; b = facing }) «own_item» «facing_item») (now (out .entry)) ⌝ }
 {

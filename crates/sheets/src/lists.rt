@@ -1,6 +1,8 @@
 // Probe lists: which pairs earlier runs have used.
-use crate::layout::{entry_at, list_no};
-use stamps::{Row, Source};
+use crate::layout::entry_at;
+use crate::layout::list_no;
+use stamps::Row;
+use stamps::Source;
 ghost use mathlib.Core.Path.{_≡_};
 ghost use Prim.Native.Nat.{_≤_, _<_};
 ghost use lib.ListN.{length, getD};

@@ -1,7 +1,13 @@
 // The pairs of runs and drains: a grid of two sources' rows, walked from spot to spot.
-use crate::layout::{item_at, put_told, row_at};
-use crate::lists::{done_before, list_of, ProbeList};
-use stamps::{Item, Row, Source};
+use crate::layout::item_at;
+use crate::layout::put_told;
+use crate::layout::row_at;
+use crate::lists::ProbeList;
+use crate::lists::done_before;
+use crate::lists::list_of;
+use stamps::Item;
+use stamps::Row;
+use stamps::Source;
 ghost use mathlib.Core.Path.{_≡_};
 ghost use mathlib.Core.Bool.{_&&_, not};
 ghost use Prim.Native.Nat.{_*_, _≤_, _<_};
@@ -10,7 +16,7 @@ ghost use Rattle.stamps.specs.Keys.{itemsMatch};
 ghost use Rattle.stamps.specs.Stamps.{doneBefore};
 ghost use Rattle.sheets.specs.Layout.{rowsNeed, listNeed, pairsNeed, rowAt};
 ghost use Rattle.sheets.specs.Lists.{entries};
-ghost use Rattle.sheets.specs.Pairs.{takes, meets, due, tableOf, Ready, NextIs, SpotIs, leftFrom, runPairs, owedPairs, Writes};
+ghost use Rattle.sheets.specs.Pairs.{takes, meets, due, wanted, tableOf, Ready, NextIs, SpotIs, leftFrom, runPairs, owedPairs, Writes};
 
 // The pairs looked at: all, as a drain does, or the spooled rows of a portion with memory rows, as a run does.
 pub enum Scope {
@@ -109,4 +115,130 @@ fn next_in_row(
         j = next_match(facing, others, j + 1, x.item);
     }
     others
+}
+
+// The first facing row from `from` on that makes a wanted pair with the row, or others.
+fn next_facing(
+    job: Job,
+    own: &[u32],
+    facing: &[u32],
+    probe: &[u32],
+    counts: &[u32; 32],
+    row: usize,
+    from: usize,
+) -> usize
+    requires { ⌜ Ready job (now own) (now facing) (now probe) (now counts) × (row < job .rows) × (from ≤ job .others) ⌝ }
+    ensures { λ r. let t = tableOf job (now (own .entry)) (now (facing .entry)) (now (probe .entry)) (now (counts .entry)) in ⌜ NextIs (λ j. wanted (job .scope) t (record { a = row; b = j })) (job .others) from r ⌝ }
+{
+    let scope = job.scope;
+    let source = job.source;
+    let parts = job.parts;
+    let x = row_at(own, row);
+    if takes_row(scope, parts, x) {
+        let part = stamps::part_of(parts, x.item);
+        let mine = list_of(counts, parts, source, part);
+        let theirs = list_of(counts, parts, stamps::other_source(source), part);
+        return next_in_row(scope, x, facing, job.others, from, probe, mine, theirs);
+    }
+    job.others
+}
+
+// The next wanted pair from the spot on, or the end.
+fn next_due(
+    job: Job,
+    own: &[u32],
+    facing: &[u32],
+    probe: &[u32],
+    counts: &[u32; 32],
+    from: Spot,
+) -> Spot
+    requires { ⌜ Ready job (now own) (now facing) (now probe) (now counts) × (from .row ≤ job .rows) × (from .facing ≤ job .others) ⌝ }
+    ensures { λ r. ⌜ SpotIs (job .scope) (tableOf job (now (own .entry)) (now (facing .entry)) (now (probe .entry)) (now (counts .entry))) (from .row) (from .facing) (r .row) (r .facing) ⌝ }
+{
+    let rows = job.rows;
+    let mut row = from.row;
+    let mut facing_row = from.facing;
+    while row < rows {
+        let found = next_facing(job, own, facing, probe, counts, row, facing_row);
+        if found < job.others {
+            return Spot { row, facing: found };
+        }
+        facing_row = 0;
+        row += 1;
+    }
+    Spot {
+        row: rows,
+        facing: 0,
+    }
+}
+
+// The number of wanted pairs, without writing any.
+fn count_due(job: Job, own: &[u32], facing: &[u32], probe: &[u32], counts: &[u32; 32]) -> usize
+    requires { ⌜ Ready job (now own) (now facing) (now probe) (now counts) ⌝ }
+    ensures { λ r. let t = tableOf job (now (own .entry)) (now (facing .entry)) (now (probe .entry)) (now (counts .entry)) in ⌜ r ≡ length (leftFrom (job .scope) t 0 0) ⌝ }
+{
+    let rows = job.rows;
+    let first = next_due(job, own, facing, probe, counts, Spot { row: 0, facing: 0 });
+    let mut row = first.row;
+    let mut j = first.facing;
+    let mut n: usize = 0;
+    while row < rows {
+        n += 1;
+        let spot = next_due(job, own, facing, probe, counts, Spot { row, facing: j + 1 });
+        row = spot.row;
+        j = spot.facing;
+    }
+    n
+}
+
+// Writes the wanted pairs from the spot on until the room is used up; position is the spot's.
+fn write_due(
+    job: Job,
+    own: &[u32],
+    facing: &[u32],
+    probe: &[u32],
+    counts: &[u32; 32],
+    from: Spot,
+    position: usize,
+    out: &mut [u32],
+    room: usize,
+) -> Written
+    requires { ⌜ Ready job (now own) (now facing) (now probe) (now counts) × (from .row ≤ job .rows) × (from .facing ≤ job .others) × (pairsNeed room ≤ length (now out)) ⌝ }
+    ensures { λ r. let t = tableOf job (now (own .entry)) (now (facing .entry)) (now (probe .entry)) (now (counts .entry)) in ⌜ Writes (job .source) t (leftFrom (job .scope) t (from .row) (from .facing)) position room (now (out .entry)) (now (out .exit)) r ⌝ }
+{
+    let source = job.source;
+    let rows = job.rows;
+    let first = next_due(job, own, facing, probe, counts, from);
+    let mut row = first.row;
+    let mut j = first.facing;
+    let mut pairs: usize = 0;
+    let mut next = position;
+    while row < rows {
+        if room <= pairs {
+            return Written {
+                pairs,
+                more: true,
+                next,
+            };
+        }
+        put_told(
+            out,
+            pairs,
+            source,
+            row as u32,
+            j as u32,
+            item_at(own, row),
+            item_at(facing, j),
+        );
+        pairs += 1;
+        next = row * job.others + j + 1;
+        let spot = next_due(job, own, facing, probe, counts, Spot { row, facing: j + 1 });
+        row = spot.row;
+        j = spot.facing;
+    }
+    Written {
+        pairs,
+        more: false,
+        next: rows * job.others,
+    }
 }

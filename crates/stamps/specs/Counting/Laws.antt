@@ -1,7 +1,7 @@
 -- Laws of counting and choosing, and the tests as a ruleset for omega. By induction on the count or the list.
 -- Assumes nothing.
 use mathlib.Core.Path.{_≡_, refl, sym, _∙_}
-use mathlib.Core.Bool.{Bool, true, false, cond}
+use mathlib.Core.Bool.{Bool, true, false, cond, _&&_}
 use mathlib.Core.Logic.{_≢_}
 use mathlib.Core.List.{List, [], _∷_, _++_}
 use Prim.Native.Nat.{ℕ, zero, suc, _+_, _≤_, _<_}
@@ -16,6 +16,11 @@ pub eqb-ne : (i j : ℕ) → eqb i j ≡ false → i ≢ j
 eqb-ne i j = eqb-false i j
 
 pub ruleset tests = (ltb-true, ltb-false, leb-true, leb-false, eqb-true, eqb-ne)
+
+-- the second test matters only where the first holds
+pub and-cong : (u : Bool) {v w : Bool} → (u ≡ true → v ≡ w) → (u && v) ≡ (u && w)
+and-cong true h = h refl
+and-cong false h = refl
 
 pub bit-le : (u : Bool) → bit u ≤ 1
 bit-le true = omega arith

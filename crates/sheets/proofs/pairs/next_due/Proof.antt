@@ -1,0 +1,49 @@
+-- `sheets::pairs::next_due` meets its contract: as much is left from the row in hand on as was from the first spot.
+-- Assumes nothing.
+use borrow.Author.Needs.{needs}
+use Prim.Native.Nat.{_-_}
+use Rattle.sheets.specs.Pairs.{tableOf}
+use Rattle.sheets.proofs.GridTurns.{Walked, walked-first, walked-row, walked-found, walked-end}
+use Rattle.sheets.proofs.pairs.next_due.Statement.{statement}
+use Rattle.sheets.proofs.pairs.next_due.Tie as tie
+
+abbrev Inv-loop : tie.InvT-loop
+Inv-loop job own facing probe counts rows row₀ facing-row₀ row facing-row = Walked (job .scope) (tableOf job own facing probe counts) row₀ facing-row₀ row facing-row
+
+abbrev μ-loop : tie.MeasureT-loop
+μ-loop job own facing probe counts rows row₀ facing-row₀ row facing-row = rows - row
+
+loop-holds : tie.Need-loop-holds Inv-loop μ-loop
+loop-holds c = walked-first _ _ _ _ (c .before .before .before .pre .1) (c .before .before .before .pre .2)
+
+next-facing-requires : tie.Need-next-facing-requires Inv-loop μ-loop
+next-facing-requires c κs = (c .before .before .before .before .before .pre .0, c .loop-test .taken, c .before .loop .inv .in-cols)
+
+returns : tie.Need-returns Inv-loop μ-loop
+returns c = walked-found _ _ _ _ _ _ (c .before .before .before .before .loop .inv) _ (c .before .before .before .loop-test .taken) (c .before .before .next-facing .ensures) (c .if1 .taken)
+
+add-row : tie.Need-add-row Inv-loop μ-loop
+add-row c = search needs
+
+loop-less : tie.Need-loop-less Inv-loop μ-loop
+loop-less c = search needs
+
+loop-again : tie.Need-loop-again Inv-loop μ-loop
+loop-again c = walked-row _ _ _ _ _ _ (c .before .before .before .before .loop .inv) _ (c .before .before .before .loop-test .taken) (c .before .before .next-facing .ensures) (c .if1 .left)
+
+returns-2 : tie.Need-returns-2 Inv-loop μ-loop
+returns-2 c = walked-end _ _ _ _ _ _ (c .before .loop .inv) (c .loop-test .left)
+
+pub next-due-spec : {M : Type 1} → statement M
+next-due-spec =
+    tie.close
+    (tie.spec
+    Inv-loop
+    μ-loop
+    loop-holds
+    next-facing-requires
+    returns
+    add-row
+    loop-less
+    loop-again
+    returns-2)
