@@ -4,7 +4,7 @@ use mathlib.Core.Path.{_≡_, refl, sym, ap, _∙_}
 use mathlib.Core.Bool.{Bool, true, false, cond}
 use mathlib.Core.List.{List, [], _∷_, _++_}
 use Prim.Native.Nat.{ℕ, zero, suc, _+_, _*_, _-_, _≤_, _<_}
-use native.Mathlib.Nat.{sub-zero, suc-mul, le-trans, mul-le-mul-left, mul-le-mul-right}
+use native.Mathlib.Nat.{sub-zero, suc-mul, mul-zero, le-trans, mul-le-mul-left, mul-le-mul-right}
 use native.Mathlib.Omega.{arith}
 use native.Mathlib.Numerals.{add-one}
 use lib.Dec.{ltb}
@@ -15,7 +15,7 @@ use Rattle.stamps.specs.declared.Source.{Source}
 use Rattle.stamps.specs.declared.Item.{Item}
 use Rattle.stamps.specs.Counting.{keep}
 use Rattle.sheets.specs.Layout.{Told, pairsNeed, putPair}
-use Rattle.sheets.specs.Pairs.{Table, Pair, across, down, every, position, wanted, tell, tellAll, putFrom, NextIs, leftRows, leftFrom, SpotIs, past, Writes}
+use Rattle.sheets.specs.Pairs.{Table, Pair, across, down, every, position, wanted, wantedPairs, tell, tellAll, putFrom, NextIs, leftRows, leftFrom, SpotIs, past, Writes}
 use Rattle.sheets.specs.declared.pairs.Scope.{Scope}
 use Rattle.sheets.specs.declared.pairs.Written.{Written}
 use Rattle.sheets.proofs.PairTurns.{Handing, handing-first, handing-next, handing-room, handing-end, length-tellAll}
@@ -52,7 +52,8 @@ module _ (scope : Scope) (t : Table) where
   abbrev pub at : ℕ → ℕ → Pair
   at i j = record { a = i; b = j }
 
-  pub left-every : leftFrom scope t 0 0 ≡ keep (wanted scope t) (every t)
+  pub left-every : leftFrom scope t 0 0 ≡ wantedPairs scope t
+  unfolding wantedPairs
   left-every = rw (sub-zero, ← down-left)
 
   pub left-none : (i j : ℕ) → t .a .count ≤ i → leftFrom scope t i j ≡ []
@@ -137,11 +138,12 @@ module _ (scope : Scope) (t : Table) where
     pub tallied-more : i < t .a .count → n + 1 ≤ length (leftFrom scope t 0 0)
     tallied-more l = omega (arith, rw (left-one i j i j (h .spot) l) at (h .sum))
 
-    pub tallied-end : t .a .count ≤ i → n ≡ length (leftFrom scope t 0 0)
-    tallied-end l = omega (arith, rw (left-none i j l) at (h .sum))
+    pub tallied-end : t .a .count ≤ i → n ≡ length (wantedPairs scope t)
+    tallied-end l = omega (arith, rw (left-none i j l) at (h .sum), ap length left-every)
 
   -- no more pairs than the grid has
   pub left-few : t .a .count ≤ 4096 → t .b .count ≤ 4096 → length (leftFrom scope t 0 0) ≤ 16777216
+  unfolding wantedPairs
   left-few h b = rw left-every (omega (arith, length-keep (wanted scope t) (every t), length-down 0 (t .a .count) (t .b .count), product-few (t .a .count) (t .b .count) h b))
 
   -- ---- writing
@@ -198,3 +200,10 @@ module _ (scope : Scope) (t : Table) where
         more = sym more;
         next = rw more;
         out = handing-end _ o out n (rw (none, take-nil) at (h .hands)) .1 }
+
+-- nothing is wanted, and the grid has no columns
+pub writing-none : (s : Source) (t : Table) (all : List Pair) (from room : ℕ) (o : List ℕ) → all ≡ [] → t .b .count ≡ 0
+    → Writes s t all from room o o (record { pairs = 0; more = false; next = 0 })
+unfolding putFrom
+writing-none s t all from room o e z = let more : ltb room 0 ≡ false = le-ltb room 0 (omega arith) in
+    record { pairs = rw (e, take-nil); more = rw (e, more); next = rw (e, more, z, mul-zero); out = rw (e, take-nil) }

@@ -2,4 +2,5 @@ mod GridTurns
 pub mod Laws
 mod ListTurns
 mod PairTurns
+mod Positions
 mod RowTurns

@@ -102,13 +102,13 @@ wanted scope t p =
     takes scope (t .parts) (rowA t p)
     && due scope (t .a .list (partOf (t .parts) (rowA t p .item))) (t .b .list (partOf (t .parts) (rowB t p .item))) (rowA t p) (rowB t p)
 
--- the pairs of a run on A's portion q: "each spooled row, ascending, is tried against each memory row of the other source, ascending"
-abbrev pub runPairs : ℕ → Table → List Pair
-runPairs q t = keep (wanted (Portion q) t) (every t)
+-- by A row, then B row. Of a run on A's portion: "each spooled row, ascending, is tried against each memory row of the other source, ascending"
+unfoldable pub wantedPairs : Scope → Table → List Pair
+wantedPairs scope t = keep (wanted scope t) (every t)
 
--- what a drain has still to write: "Matching pairs not done before, from the drain position on"
-abbrev pub owedPairs : ℕ → Table → List Pair
-owedPairs from t = keep (λ p. leb from (position t p) && wanted All t p) (every t)
+-- of a drain: "from the drain position on"
+unfoldable pub pairsFrom : Scope → ℕ → Table → List Pair
+pairsFrom scope k t = keep (λ p. leb k (position t p)) (wantedPairs scope t)
 
 -- ---- pairs in an output
 

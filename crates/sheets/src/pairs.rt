@@ -16,7 +16,7 @@ ghost use Rattle.stamps.specs.Keys.{itemsMatch};
 ghost use Rattle.stamps.specs.Stamps.{doneBefore};
 ghost use Rattle.sheets.specs.Layout.{rowsNeed, listNeed, pairsNeed, rowAt};
 ghost use Rattle.sheets.specs.Lists.{entries};
-ghost use Rattle.sheets.specs.Pairs.{takes, meets, due, wanted, tableOf, Ready, NextIs, SpotIs, leftFrom, runPairs, owedPairs, Writes};
+ghost use Rattle.sheets.specs.Pairs.{takes, meets, due, wanted, tableOf, Ready, NextIs, SpotIs, leftFrom, wantedPairs, pairsFrom, Writes};
 
 // The pairs looked at: all, as a drain does, or the spooled rows of a portion with memory rows, as a run does.
 pub enum Scope {
@@ -173,9 +173,9 @@ fn next_due(
 }
 
 // The number of wanted pairs, without writing any.
-fn count_due(job: Job, own: &[u32], facing: &[u32], probe: &[u32], counts: &[u32; 32]) -> usize
+pub fn count_due(job: Job, own: &[u32], facing: &[u32], probe: &[u32], counts: &[u32; 32]) -> usize
     requires { ⌜ Ready job (now own) (now facing) (now probe) (now counts) ⌝ }
-    ensures { λ r. let t = tableOf job (now (own .entry)) (now (facing .entry)) (now (probe .entry)) (now (counts .entry)) in ⌜ r ≡ length (leftFrom (job .scope) t 0 0) ⌝ }
+    ensures { λ r. let t = tableOf job (now (own .entry)) (now (facing .entry)) (now (probe .entry)) (now (counts .entry)) in ⌜ r ≡ length (wantedPairs (job .scope) t) ⌝ }
 {
     let rows = job.rows;
     let first = next_due(job, own, facing, probe, counts, Spot { row: 0, facing: 0 });
@@ -241,4 +241,33 @@ fn write_due(
         more: false,
         next: rows * job.others,
     }
+}
+
+// Writes the wanted pairs from the position on until the room is used up.
+pub fn write_from(
+    job: Job,
+    own: &[u32],
+    facing: &[u32],
+    probe: &[u32],
+    counts: &[u32; 32],
+    position: usize,
+    out: &mut [u32],
+    room: usize,
+) -> Written
+    requires { ⌜ Ready job (now own) (now facing) (now probe) (now counts) × (position ≤ job .rows * job .others) × (pairsNeed room ≤ length (now out)) ⌝ }
+    ensures { λ r. let t = tableOf job (now (own .entry)) (now (facing .entry)) (now (probe .entry)) (now (counts .entry)) in ⌜ Writes (job .source) t (pairsFrom (job .scope) position t) position room (now (out .entry)) (now (out .exit)) r ⌝ }
+{
+    let others = job.others;
+    if others == 0 {
+        return Written {
+            pairs: 0,
+            more: false,
+            next: 0,
+        };
+    }
+    let from = Spot {
+        row: position / others,
+        facing: position % others,
+    };
+    write_due(job, own, facing, probe, counts, from, position, out, room)
 }

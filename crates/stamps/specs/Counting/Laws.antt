@@ -92,3 +92,14 @@ keep-append t (x ∷ l) m = go (t x) (keep-append t l m)
     go : (u : Bool) → keep t (l ++ m) ≡ keep t l ++ keep t m → cond u (x ∷ keep t (l ++ m)) (keep t (l ++ m)) ≡ cond u (x ∷ keep t l) (keep t l) ++ keep t m
     go true e = rw e
     go false e = e
+
+pub keep-comm : {X : Type 0} (t u : X → Bool) (l : List X) → keep t (keep u l) ≡ keep u (keep t l)
+keep-comm t u [] = refl
+keep-comm t u (x ∷ l) = go (t x) (u x) refl refl (keep-comm t u l)
+  where
+    go : (v w : Bool) → t x ≡ v → u x ≡ w → keep t (keep u l) ≡ keep u (keep t l)
+        → keep t (cond w (x ∷ keep u l) (keep u l)) ≡ keep u (cond v (x ∷ keep t l) (keep t l))
+    go true true e f ih = rw (e, f, ih)
+    go true false e f ih = rw f ih
+    go false true e f ih = rw e ih
+    go false false e f ih = ih
