@@ -18,7 +18,7 @@ use Rattle.sheets.specs.Layout.{Told, pairsNeed, putPair}
 use Rattle.sheets.specs.Pairs.{Table, Pair, across, down, every, position, wanted, wantedPairs, tell, tellAll, putFrom, NextIs, leftRows, leftFrom, SpotIs, past, Writes}
 use Rattle.sheets.specs.declared.pairs.Scope.{Scope}
 use Rattle.sheets.specs.declared.pairs.Written.{Written}
-use Rattle.sheets.proofs.PairTurns.{Handing, handing-first, handing-next, handing-room, handing-end, length-tellAll}
+use Rattle.sheets.proofs.PairTurns.{Handing, handing-first, handing-next, handing-room, handing-end}
 
 down-left : (i k m : ℕ) → down i k m ≡ leftRows m i 0 k
 down-left i zero m = refl

@@ -1,27 +1,30 @@
 -- What the layers above may know of the sheets: what is laid is read back, and every other word stays.
 -- By induction on the rows laid. Assumes nothing.
-use mathlib.Core.Path.{_≡_, refl, sym, ap₂, _∙_, fun-ext}
-use mathlib.Core.Bool.{Bool, true, false, cond, not, _&&_, and-true, and-false}
+use mathlib.Core.Path.{_≡_, refl, sym, ap, ap₂, _∙_, fun-ext}
+use mathlib.Core.Bool.{Bool, true, false, cond, not, _&&_, and-true, and-false, true≢false}
 use mathlib.Core.List.{List, [], _∷_, _++_}
-use Prim.Native.Nat.{ℕ, zero, suc, _+_, _≤_}
+use Prim.Native.Nat.{ℕ, zero, suc, _+_, _≤_, _<_, max}
+use native.Mathlib.Nat.{add-zero, zero-add}
 use native.Mathlib.Omega.{arith}
-use lib.Dec.{ltb, eqb}
+use lib.Dec.{ltb, leb, eqb, leb·zero}
 use lib.ListN.{length, getD, length-append}
 use borrow.Author.Tests.{lt-ltb, eqb-true, eq-eqb, ne-eqb}
+use Rattle.stamps.specs.declared.Source.{Source}
 use Rattle.stamps.specs.declared.Item.{Item}
 use Rattle.stamps.specs.declared.Row.{Row}
 use Rattle.stamps.specs.declared.Entry.{Entry}
-use Rattle.stamps.specs.Counting.{bit, upTo}
-use Rattle.stamps.specs.Counting.Laws.{tests}
+use Rattle.stamps.specs.Counting.{bit, tally, keep, upTo}
+use Rattle.stamps.specs.Counting.Laws.{tests, eqb-ne}
 use Rattle.stamps.specs.Keys.{itemsMatch, partOf}
 use Rattle.stamps.specs.Keys.Laws.{match-part}
 use Rattle.stamps.specs.Stamps.{inMemory}
 use Rattle.stamps.specs.Stamps.Laws.{stamp}
-use Rattle.sheets.specs.Layout.{rowsNeed, rowAt, putRow, entryAt}
-use Rattle.sheets.specs.Layout.Laws.{length-putRow, row-same, row-other, row-beyond}
+use Rattle.sheets.specs.Layout.{rowsNeed, rowAt, putRow, listNeed, entryAt, putEntry, Told, pairsNeed, pairAt, putPair}
+use Rattle.sheets.specs.Layout.Laws.{length-putRow, row-same, row-other, row-beyond, entry-same, entry-other, length-putPair, pair-same, pair-other, pair-beyond}
 use Rattle.sheets.specs.Lists.{entries, probedAt}
-use Rattle.sheets.specs.Pairs.{met}
-use Rattle.sheets.specs.Rows.{hot, portionRows, flushed, lay}
+use Rattle.sheets.specs.Pairs.{Pair, Table, across, position, met, arrivalPairs, tellAll, putFrom, pairsAt, wantedPairs, pairsFrom}
+use Rattle.sheets.specs.declared.pairs.Scope.{Scope}
+use Rattle.sheets.specs.Rows.{hot, spooled, portionRows, latest, flushed, lay}
 
 -- ---- rows laid over a sheet
 
@@ -56,6 +59,14 @@ rows-lay f n l h = fun-ext λ i. go i n h (ltb i n) refl
         last true g ih = rw (eqb-true i n g) (row-same (lay f n l) n (f n) (rw length-lay b))
         last false g ih = row-other (lay f n l) n (f n) i (omega (arith, tests)) ∙ ih (lt-ltb i n (omega (arith, tests)))
 
+-- one row written
+pub rows-put : (l : List ℕ) (n : ℕ) (x : Row) → rowsNeed (suc n) ≤ length l → rowAt (putRow n x l) ≡ (λ i. cond (eqb i n) x (rowAt l i))
+rows-put l n x h = fun-ext λ i. go i (eqb i n) refl
+  where
+    go : (i : ℕ) (u : Bool) → eqb i n ≡ u → rowAt (putRow n x l) i ≡ cond u x (rowAt l i)
+    go i true e = rw (eqb-true i n e) (row-same l n x h)
+    go i false e = row-other l n x i (eqb-ne i n e)
+
 -- ---- probe lists
 
 pub probed-last : (clock : ℕ) (es : List Entry) (e : Entry) → probedAt clock (es ++ (e ∷ [])) ≡ eqb (e .probe) clock
@@ -68,6 +79,98 @@ pub length-entries : (probe : List ℕ) (k n : ℕ) → length (entries probe k 
 unfolding entries
 length-entries probe k zero = refl
 length-entries probe k (suc n) = length-append (entries probe k n) (entryAt probe k n ∷ []) ∙ omega (arith, length-entries probe k n)
+
+-- one entry more in list k, which had n: the other lists, and the entries before it, stay
+pub entries-other : (probe : List ℕ) (k n : ℕ) (x : Entry) (k′ m : ℕ) → (k′ ≡ k → m ≤ n) → n < 32 → m ≤ 32 → entries (putEntry k n x probe) k′ m ≡ entries probe k′ m
+unfolding entries
+entries-other probe k n x k′ zero d h b = refl
+entries-other probe k n x k′ (suc m) d h b = ap₂ (λ (es : List Entry) (e : Entry). es ++ (e ∷ []))
+    (entries-other probe k n x k′ m (λ g. omega (arith, d g)) h (omega arith)) (entry-other probe k n x k′ m (λ g. omega (arith, d g)) h (omega arith))
+
+pub entries-new : (probe : List ℕ) (k n : ℕ) (x : Entry) → n < 32 → listNeed k (suc n) ≤ length probe
+    → entries (putEntry k n x probe) k (suc n) ≡ entries probe k n ++ (x ∷ [])
+unfolding entries
+entries-new probe k n x h b = ap₂ (λ (es : List Entry) (e : Entry). es ++ (e ∷ [])) (entries-other probe k n x k n (λ g. omega arith) h (omega arith)) (entry-same probe k n x b)
+
+-- ---- pairs put into an output
+
+pub length-putFrom : (w : ℕ) (xs : List Told) (o : List ℕ) → length (putFrom w xs o) ≡ length o
+unfolding putFrom
+length-putFrom w [] o = refl
+length-putFrom w (x ∷ xs) o = length-putFrom (suc w) xs (putPair w x o) ∙ length-putPair w x o
+
+-- the words beyond the pairs are as they were
+pub putFrom-beyond : (w : ℕ) (xs : List Told) (o : List ℕ) (p : ℕ) → pairsNeed (w + length xs) ≤ p → getD (putFrom w xs o) p 0 ≡ getD o p 0
+unfolding putFrom
+putFrom-beyond w [] o p h = refl
+putFrom-beyond w (x ∷ xs) o p h = putFrom-beyond (suc w) xs (putPair w x o) p (omega arith) ∙ pair-beyond o w x p (omega arith)
+
+putFrom-below : (w : ℕ) (xs : List Told) (o : List ℕ) (i : ℕ) → i < w → pairAt (putFrom w xs o) i ≡ pairAt o i
+unfolding putFrom
+putFrom-below w [] o i h = refl
+putFrom-below w (x ∷ xs) o i h = putFrom-below (suc w) xs (putPair w x o) i (omega arith) ∙ pair-other o w x i (omega arith)
+
+-- pairs that are put are read back
+pub read-put : (w : ℕ) (xs : List Told) (o : List ℕ) → pairsNeed (w + length xs) ≤ length o → pairsAt (putFrom w xs o) w (length xs) ≡ xs
+unfolding putFrom
+read-put w [] o h = refl
+read-put w (x ∷ xs) o h = ap₂ (λ (y : Told) (ys : List Told). y ∷ ys)
+    (putFrom-below (suc w) xs (putPair w x o) w (omega arith) ∙ pair-same o w x (omega arith))
+    (read-put (suc w) xs (putPair w x o) (rw length-putPair (omega arith)))
+
+pub length-tellAll : (s : Source) (x y : ℕ → Item) (ps : List Pair) → length (tellAll s x y ps) ≡ length ps
+length-tellAll s x y [] = refl
+length-tellAll s x y (p ∷ ps) = ap suc (length-tellAll s x y ps)
+
+-- ---- the counts that are answered are the lengths of the lists
+
+length-met : (i : ℕ) (item : Item) (g : ℕ → Row) (j m : ℕ) → tally (λ k. met item (g k)) j + length (keep (λ p. met item (g (p .b))) (across i j m)) ≡ tally (λ k. met item (g k)) (j + m)
+length-met i item g j zero = rw (add-zero j) (omega arith)
+length-met i item g j (suc m) = let s : j + suc m ≡ suc j + m = omega arith in rw s (go (met item (g j)) refl (length-met i item g (suc j) m))
+  where
+    go : (u : Bool) → met item (g j) ≡ u → tally (λ k. met item (g k)) j + bit (met item (g j)) + length (keep (λ p. met item (g (p .b))) (across i (suc j) m)) ≡ tally (λ k. met item (g k)) (suc j + m)
+        → tally (λ k. met item (g k)) j + length (cond u (record { a = i; b = j } ∷ keep (λ p. met item (g (p .b))) (across i (suc j) m)) (keep (λ p. met item (g (p .b))) (across i (suc j) m))) ≡ tally (λ k. met item (g k)) (suc j + m)
+    go true e ih = omega (arith, rw e at ih)
+    go false e ih = omega (arith, rw e at ih)
+
+pub length-arrival : (i : ℕ) (item : Item) (g : ℕ → Row) (m : ℕ) → length (arrivalPairs i item g m) ≡ tally (λ k. met item (g k)) m
+unfolding arrivalPairs
+length-arrival i item g m = sym (zero-add _) ∙ length-met i item g 0 m ∙ ap (tally (λ k. met item (g k))) (zero-add m)
+
+-- from position 0 on: all
+pub pairs-from-start : (scope : Scope) (t : Table) → pairsFrom scope 0 t ≡ wantedPairs scope t
+unfolding pairsFrom
+pairs-from-start scope t = go (wantedPairs scope t)
+  where
+    go : (ps : List Pair) → keep (λ p. leb 0 (position t p)) ps ≡ ps
+    go [] = refl
+    go (p ∷ ps) = rw (leb·zero (position t p), go ps)
+
+-- a portion has no spooled row exactly if its largest DTS is 0
+pub latest-none : (parts q : ℕ) (f : ℕ → Row) (n : ℕ) → eqb (latest parts q f n) 0 ≡ eqb (tally (λ i. spooled parts q (f i)) n) 0
+latest-none parts q f n = go (eqb (tally (λ i. spooled parts q (f i)) n) 0) refl
+  where
+    stamped : (i : ℕ) → spooled parts q (f i) ≡ true → f i .dts ≡ 0 → ⊥
+    stamped i e z = let h : spooled parts q (f i) ≡ false = rw (eq-eqb (f i .dts) 0 z) in true≢false (sym e ∙ h)
+    zeros : (n : ℕ) → tally (λ i. spooled parts q (f i)) n ≡ 0 → latest parts q f n ≡ 0
+    zeros zero h = refl
+    zeros (suc n) h = at (spooled parts q (f n)) h (zeros n)
+      where
+        at : (u : Bool) → tally (λ i. spooled parts q (f i)) n + bit u ≡ 0 → (tally (λ i. spooled parts q (f i)) n ≡ 0 → latest parts q f n ≡ 0)
+            → max (latest parts q f n) (cond u (f n .dts) 0) ≡ 0
+        at true h ih = absurd (omega arith)
+        at false h ih = omega (arith, ih (omega arith))
+    some : (n : ℕ) → latest parts q f n ≡ 0 → tally (λ i. spooled parts q (f i)) n ≡ 0
+    some zero h = refl
+    some (suc n) h = at (spooled parts q (f n)) refl h (some n)
+      where
+        at : (u : Bool) → spooled parts q (f n) ≡ u → max (latest parts q f n) (cond u (f n .dts) 0) ≡ 0 → (latest parts q f n ≡ 0 → tally (λ i. spooled parts q (f i)) n ≡ 0)
+            → tally (λ i. spooled parts q (f i)) n + bit u ≡ 0
+        at true e h ih = absurd (stamped n e (omega arith))
+        at false e h ih = omega (arith, ih (omega arith))
+    go : (u : Bool) → eqb (tally (λ i. spooled parts q (f i)) n) 0 ≡ u → eqb (latest parts q f n) 0 ≡ u
+    go true e = eq-eqb _ 0 (zeros n (eqb-true _ 0 e))
+    go false e = ne-eqb _ 0 (λ h. eqb-ne _ 0 e (some n h))
 
 -- ---- the rows after a flush
 

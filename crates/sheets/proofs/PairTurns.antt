@@ -26,7 +26,7 @@ use Rattle.stamps.specs.Stamps.Laws.{stamp}
 use Rattle.sheets.specs.Layout.{pairsNeed, rowAt, listNo, listNeed, Told, putPair}
 use Rattle.sheets.specs.Layout.Laws.{length-putPair}
 use Rattle.sheets.specs.Rows.{hot, portionRows, flushed}
-use Rattle.sheets.proofs.Laws.{met-gone, met-kept}
+use Rattle.sheets.proofs.Laws.{length-tellAll, met-gone, met-kept}
 use Rattle.sheets.specs.Pairs.{Pair, across, down, met, arrivalPairs, tell, tellAll, putFrom, takes, meets, due, wanted, tableOf, Ready, NextIs}
 use Rattle.sheets.specs.Lists.{entries, listOf}
 use Rattle.sheets.specs.declared.lists.ProbeList.{ProbeList}
@@ -57,10 +57,6 @@ module _ (all : List Told) (o out : List ℕ) (w : ℕ) where
   pub handing-end : Handing all [] o out w → (w ≡ length all) × (out ≡ putFrom 0 all o)
   unfolding putFrom
   handing-end h = (omega (arith, h .sum), h .rest)
-
-pub length-tellAll : (s : Source) (x y : ℕ → Item) (ps : List Pair) → length (tellAll s x y ps) ≡ length ps
-length-tellAll s x y [] = refl
-length-tellAll s x y (p ∷ ps) = ap suc (length-tellAll s x y ps)
 
 -- ---- an arrival
 

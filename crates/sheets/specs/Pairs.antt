@@ -15,7 +15,7 @@ use Rattle.stamps.specs.Counting.{keep}
 use Rattle.stamps.specs.Keys.{itemsMatch, partOf}
 use Rattle.stamps.specs.Sources.{other}
 use Rattle.stamps.specs.Stamps.{inMemory, doneBefore}
-use Rattle.sheets.specs.Layout.{rowsNeed, rowAt, probeNeed, Told, putPair}
+use Rattle.sheets.specs.Layout.{rowsNeed, rowAt, probeNeed, Told, pairAt, putPair}
 use Rattle.sheets.specs.Lists.{listOf}
 use Rattle.sheets.specs.Rows.{spooled}
 use Rattle.sheets.specs.declared.pairs.Job.{Job}
@@ -125,6 +125,11 @@ tellAll s x y (p ∷ ps) = tell s p (x (p .a)) (y (p .b)) ∷ tellAll s x y ps
 unfoldable pub putFrom : ℕ → List Told → List ℕ → List ℕ
 putFrom w [] o = o
 putFrom w (x ∷ xs) o = putFrom (suc w) xs (putPair w x o)
+
+-- n pairs read back, from pair number w on
+abbrev pub pairsAt : List ℕ → ℕ → ℕ → List Told
+pairsAt o w zero = []
+pairsAt o w (suc n) = pairAt o w ∷ pairsAt o (suc w) n
 
 -- ---- a job: what a run or a drain works on
 

@@ -11,7 +11,7 @@ use lib.Seq.{sets, length-sets, getD-set-same, getD-set-other, set-getD}
 use Rattle.stamps.specs.declared.Row.{Row}
 use Rattle.stamps.specs.declared.Entry.{Entry}
 use Rattle.stamps.specs.Stamps.Laws.{stamp}
-use Rattle.sheets.specs.Layout.{rowsNeed, rowAt, rowWords, putRow, listNeed, entryAt, putEntry, Told, pairsNeed, pairAt, pairWords, putPair}
+use Rattle.sheets.specs.Layout.{rowsNeed, rowAt, rowWords, putRow, listNeed, entryAt, entryWords, putEntry, Told, pairsNeed, pairAt, pairWords, putPair}
 
 -- ---- a block of words
 
@@ -65,6 +65,29 @@ row-again l r = sets-again (rowWords (rowAt l r)) l (3 * r) word
     word (suc zero) p b e = let f : p ≡ 3 * r + 1 = omega arith in rw f
     word (suc (suc zero)) p b e = let f : p ≡ 3 * r + 2 = omega arith in rw f
     word (suc (suc (suc k))) p b e = absurd (omega arith)
+
+-- ---- entries
+
+pub length-putEntry : (k e : ℕ) (x : Entry) (l : List ℕ) → length (putEntry k e x l) ≡ length l
+unfolding putEntry
+length-putEntry k e x l = length-sets l (64 * k + 2 * e) (entryWords x)
+
+pub entry-same : (l : List ℕ) (k e : ℕ) (x : Entry) → listNeed k (suc e) ≤ length l → entryAt (putEntry k e x l) k e ≡ x
+unfolding entryAt putEntry
+entry-same l k e x h = λ i. record { last = word 0 (64 * k + 2 * e) (omega arith) (omega arith) i; probe = word 1 (64 * k + 2 * e + 1) refl (omega arith) i }
+  where
+    word : (j p : ℕ) → p ≡ 64 * k + 2 * e + j → j < 2 → getD (sets l (64 * k + 2 * e) (entryWords x)) p 0 ≡ getD (entryWords x) j 0
+    word j p d b = sets-same (entryWords x) l (64 * k + 2 * e) j p d b (omega arith)
+
+-- of lists with at most 32 entries, no two have a word in common
+pub entry-other : (l : List ℕ) (k e : ℕ) (x : Entry) (k′ e′ : ℕ) → (k′ ≡ k → e′ ≢ e) → e < 32 → e′ < 32 → entryAt (putEntry k e x l) k′ e′ ≡ entryAt l k′ e′
+unfolding entryAt putEntry
+entry-other l k e x k′ e′ d h b = λ i. record { last = word 0 (64 * k′ + 2 * e′) (omega arith) (omega arith) i; probe = word 1 (64 * k′ + 2 * e′ + 1) refl (omega arith) i }
+  where
+    apart : (j i : ℕ) → j < 2 → i < 2 → 64 * k′ + 2 * e′ + j ≡ 64 * k + 2 * e + i → ⊥
+    apart j i c f g = let s : k′ ≡ k = omega arith in d s (omega arith)
+    word : (j p : ℕ) → p ≡ 64 * k′ + 2 * e′ + j → j < 2 → getD (sets l (64 * k + 2 * e) (entryWords x)) p 0 ≡ getD l p 0
+    word j p g c = sets-other (entryWords x) l (64 * k + 2 * e) p (λ i f q. apart j i c f (sym g ∙ q))
 
 -- ---- pairs
 
