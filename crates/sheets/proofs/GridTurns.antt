@@ -129,8 +129,9 @@ module _ (scope : Scope) (t : Table) where
   module _ (n i j : ℕ) (h : Tallied n i j) where
     pub tallied-next : (i′ j′ : ℕ) → i < t .a .count → SpotIs scope t i (j + 1) i′ j′ → Tallied (n + 1) i′ j′
     tallied-next i′ j′ l s = record {
-        spot = spot-here i (j + 1) i′ j′ s;
-        sum = omega (arith, rw (left-one i j i j (h .spot) l, s .none-between) at (h .sum)) }
+      spot = spot-here i (j + 1) i′ j′ s;
+      sum = omega (arith, rw (left-one i j i j (h .spot) l, s .none-between) at (h .sum));
+    }
 
     pub tallied-less : (i′ j′ : ℕ) → i < t .a .count → SpotIs scope t i (j + 1) i′ j′ → length (leftFrom scope t i′ j′) < length (leftFrom scope t i j)
     tallied-less i′ j′ l s = rw (left-one i j i j (h .spot) l, s .none-between) (omega arith)
@@ -159,11 +160,12 @@ module _ (scope : Scope) (t : Table) where
   pub writing-first : (s : Source) (row col from room : ℕ) (o : List ℕ) (i j : ℕ) → SpotIs scope t row col i j
       → Writing s (leftFrom scope t row col) from room o o 0 from i j
   writing-first s row col from room o i j h = record {
-      spot = spot-here row col i j h;
-      in-room = omega arith;
-      sum = rw (h .none-between) (omega arith);
-      hands = rw (sub-zero, h .none-between) (handing-first _ o);
-      ends = rw (sub-zero, h .none-between) }
+    spot = spot-here row col i j h;
+    in-room = omega arith;
+    sum = rw (h .none-between) (omega arith);
+    hands = rw (sub-zero, h .none-between) (handing-first _ o);
+    ends = rw (sub-zero, h .none-between);
+  }
 
   module _ (s : Source) (all : List Pair) (from room : ℕ) (o out : List ℕ) (n next i j : ℕ) (h : Writing s all from room o out n next i j) (l : i < t .a .count) where
     ahead : n < room → take (room - n) (leftFrom scope t i j) ≡ at i j ∷ take (room - (n + 1)) (leftFrom scope t i (j + 1))
@@ -175,11 +177,12 @@ module _ (scope : Scope) (t : Table) where
     pub writing-next : (out′ : List ℕ) (i′ j′ : ℕ) → n < room → out′ ≡ putPair n (tell s (at i j) (t .a .row i .item) (t .b .row j .item)) out
         → SpotIs scope t i (j + 1) i′ j′ → Writing s all from room o out′ (n + 1) (i * t .b .count + j + 1) i′ j′
     writing-next out′ i′ j′ b e x = record {
-        spot = spot-here i (j + 1) i′ j′ x;
-        in-room = omega arith;
-        sum = omega (arith, rw (left-one i j i j (h .spot) l, x .none-between) at (h .sum));
-        hands = rw (← x .none-between) (handing-next _ o out n _ _ out′ (rw (ahead b) at (h .hands)) e);
-        ends = rw (← x .none-between, add-one (i * t .b .count + j)) (rw (ahead b) at (h .ends)) }
+      spot = spot-here i (j + 1) i′ j′ x;
+      in-room = omega arith;
+      sum = omega (arith, rw (left-one i j i j (h .spot) l, x .none-between) at (h .sum));
+      hands = rw (← x .none-between) (handing-next _ o out n _ _ out′ (rw (ahead b) at (h .hands)) e);
+      ends = rw (← x .none-between, add-one (i * t .b .count + j)) (rw (ahead b) at (h .ends));
+    }
 
     pub writing-full : room ≤ n → Writes s t all from room o out (record { pairs = n; more = true; next = next })
     writing-full b = let none : room - n ≡ 0 = omega arith in
@@ -188,7 +191,8 @@ module _ (scope : Scope) (t : Table) where
           pairs = rw (length-take-le room all (omega (arith, h .sum, h .in-room))) (omega (arith, h .in-room));
           more = sym more;
           next = rw more (rw none at (h .ends));
-          out = handing-end _ o out n (rw none at (h .hands)) .1 }
+          out = handing-end _ o out n (rw none at (h .hands)) .1;
+        }
 
   pub writing-end : (s : Source) (all : List Pair) (from room : ℕ) (o out : List ℕ) (n next i j : ℕ) → Writing s all from room o out n next i j → t .a .count ≤ i
       → Writes s t all from room o out (record { pairs = n; more = false; next = t .a .count * t .b .count })
@@ -199,7 +203,8 @@ module _ (scope : Scope) (t : Table) where
         pairs = rw (take-all room all (omega (arith, h .in-room))) whole;
         more = sym more;
         next = rw more;
-        out = handing-end _ o out n (rw (none, take-nil) at (h .hands)) .1 }
+        out = handing-end _ o out n (rw (none, take-nil) at (h .hands)) .1;
+      }
 
 -- nothing is wanted, and the grid has no columns
 pub writing-none : (s : Source) (t : Table) (all : List Pair) (from room : ℕ) (o : List ℕ) → all ≡ [] → t .b .count ≡ 0

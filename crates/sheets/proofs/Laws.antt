@@ -152,6 +152,7 @@ latest-none parts q f n = go (eqb (tally (λ i. spooled parts q (f i)) n) 0) ref
   where
     stamped : (i : ℕ) → spooled parts q (f i) ≡ true → f i .dts ≡ 0 → ⊥
     stamped i e z = let h : spooled parts q (f i) ≡ false = rw (eq-eqb (f i .dts) 0 z) in true≢false (sym e ∙ h)
+
     zeros : (n : ℕ) → tally (λ i. spooled parts q (f i)) n ≡ 0 → latest parts q f n ≡ 0
     zeros zero h = refl
     zeros (suc n) h = at (spooled parts q (f n)) h (zeros n)
@@ -160,6 +161,7 @@ latest-none parts q f n = go (eqb (tally (λ i. spooled parts q (f i)) n) 0) ref
             → max (latest parts q f n) (cond u (f n .dts) 0) ≡ 0
         at true h ih = absurd (omega arith)
         at false h ih = omega (arith, ih (omega arith))
+
     some : (n : ℕ) → latest parts q f n ≡ 0 → tally (λ i. spooled parts q (f i)) n ≡ 0
     some zero h = refl
     some (suc n) h = at (spooled parts q (f n)) refl h (some n)
@@ -168,6 +170,7 @@ latest-none parts q f n = go (eqb (tally (λ i. spooled parts q (f i)) n) 0) ref
             → tally (λ i. spooled parts q (f i)) n + bit u ≡ 0
         at true e h ih = absurd (stamped n e (omega arith))
         at false e h ih = omega (arith, ih (omega arith))
+
     go : (u : Bool) → eqb (tally (λ i. spooled parts q (f i)) n) 0 ≡ u → eqb (latest parts q f n) 0 ≡ u
     go true e = eq-eqb _ 0 (zeros n (eqb-true _ 0 e))
     go false e = ne-eqb _ 0 (λ h. eqb-ne _ 0 e (some n h))

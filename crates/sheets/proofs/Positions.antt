@@ -43,7 +43,7 @@ module _ (m k : ℕ) where
   cut-down i zero n h = rw (zero-add, add-zero)
   cut-down i (suc d) n h = let e : suc d + n ≡ suc (d + n) = omega arith in let f : suc i + d ≡ i + suc d = omega arith in
       rw (e, ← f) (keep-append later (across i 0 m) (down (suc i) (d + n) m)
-        ∙ rw (none-across i m (omega (arith, suc-mul i m, first))) (cut-down (suc i) d n (rw f h)))
+      ∙ rw (none-across i m (omega (arith, suc-mul i m, first))) (cut-down (suc i) d n (rw f h)))
     where
       first : suc i * m ≤ k
       first = le-trans (mul-le-mul-right m (omega arith)) h
@@ -56,6 +56,7 @@ module _ (m k : ℕ) where
       row : keep later (across i 0 m) ≡ across i j (m - j)
       row = let f : j + (m - j) ≡ m = omega arith in
           ap (λ (c : ℕ). keep later (across i 0 c)) (sym f) ∙ cut-across i 0 j (m - j) (omega arith) ∙ rw zero-add (all-across i j (m - j) (omega arith))
+
       own : (r : ℕ) → keep later (down i r m) ≡ leftRows m i j r
       own zero = refl
       own (suc r) = keep-append later (across i 0 m) (down (suc i) r m) ∙ ap₂ _++_ row (all-down (suc i) r (rw suc-mul (omega arith)))
@@ -66,8 +67,8 @@ pub left-position : (scope : Scope) (t : Table) (k : ℕ) → (t .b .count ≡ 0
 unfolding pairsFrom wantedPairs
 left-position scope t k z h =
     sym (keep-comm (λ p. leb k (position t p)) (wanted scope t) (every t)
-      ∙ ap (keep (wanted scope t)) (left-later (t .b .count) k (k / t .b .count) (k % t .b .count) (t .a .count)
-          (div-le-of-le-mul (t .b .count) (rw mul-comm at h)) (mod-lt k (pos-of-ne-zero z)) (sym (div-add-mod' k (t .b .count)))))
+    ∙ ap (keep (wanted scope t)) (left-later (t .b .count) k (k / t .b .count) (k % t .b .count) (t .a .count)
+    (div-le-of-le-mul (t .b .count) (rw mul-comm at h)) (mod-lt k (pos-of-ne-zero z)) (sym (div-add-mod' k (t .b .count)))))
 
 -- no columns, no pairs
 pub none-position : (scope : Scope) (t : Table) (k : ℕ) → t .b .count ≡ 0 → pairsFrom scope k t ≡ []

@@ -5,12 +5,23 @@ use crate::layout::put_told;
 use stamps::Item;
 use stamps::Source;
 ghost use mathlib.Core.Path.{_≡_};
-ghost use Prim.Native.Nat.{ℕ, _≤_, _<_};
+ghost use Prim.Native.Nat.{ℕ, _+_, _≤_, _<_};
 ghost use lib.ListN.{length};
 ghost use Rattle.stamps.specs.Counting.{tally};
 ghost use Rattle.sheets.specs.Layout.{rowsNeed, pairsNeed, rowAt};
 ghost use Rattle.sheets.specs.Pairs.{met, arrivalPairs, tellAll, putFrom};
 ghost use Rattle.sheets.specs.Rows.{flushed};
+
+// Row number row matches the item and is in memory.
+fn is_met(sheet: &[u32], row: usize, item: Item) -> bool
+    requires { ⌜ rowsNeed (row + 1) ≤ length (now sheet) ⌝ }
+    ensures { λ r. ⌜ r ≡ met item (rowAt (now (sheet .entry)) row) ⌝ }
+{
+    if stamps::items_match(item, item_at(sheet, row)) {
+        return dts_at(sheet, row) == 0;
+    }
+    false
+}
 
 pub fn count_met(sheet: &[u32], rows: usize, item: Item) -> usize
     requires { ⌜ rowsNeed rows ≤ length (now sheet) ⌝ }
@@ -21,10 +32,8 @@ pub fn count_met(sheet: &[u32], rows: usize, item: Item) -> usize
     while i < rows {
         let row = i;
         i += 1;
-        if stamps::items_match(item, item_at(sheet, row)) {
-            if dts_at(sheet, row) == 0 {
-                count += 1;
-            }
+        if is_met(sheet, row, item) {
+            count += 1;
         }
     }
     count
@@ -51,12 +60,9 @@ pub fn write_met(sheet: &[u32], rows: usize, item: Item, source: Source, new: u3
     while i < rows {
         let row = i;
         i += 1;
-        let facing = item_at(sheet, row);
-        if stamps::items_match(item, facing) {
-            if dts_at(sheet, row) == 0 {
-                put_told(out, w, source, new, row as u32, item, facing);
-                w += 1;
-            }
+        if is_met(sheet, row, item) {
+            put_told(out, w, source, new, row as u32, item, item_at(sheet, row));
+            w += 1;
         }
     }
 }

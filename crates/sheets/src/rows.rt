@@ -8,7 +8,7 @@ ghost use Prim.Native.Nat.{_+_, _^_, _≤_, _<_};
 ghost use lib.ListN.{length, getD};
 ghost use Rattle.stamps.specs.Counting.{values};
 ghost use Rattle.sheets.specs.Layout.{rowsNeed, rowAt};
-ghost use Rattle.sheets.specs.Rows.{memoryRows, portionRows, latest, Flushes, largestOf, victim};
+ghost use Rattle.sheets.specs.Rows.{hot, memoryRows, portionRows, latest, Flushes, largestOf, victim};
 
 pub fn count_memory(sheet: &[u32], rows: usize) -> usize
     requires { ⌜ rowsNeed rows ≤ length (now sheet) ⌝ }
@@ -85,6 +85,17 @@ pub fn find_victim(a: &[u32], a_rows: usize, b: &[u32], b_rows: usize, parts: u3
     largest_of(of_b, Source::B, parts, best)
 }
 
+// Row number row is in memory and of the partition.
+fn is_hot(sheet: &[u32], row: usize, parts: u32, part: u32) -> bool
+    requires { ⌜ (rowsNeed (row + 1) ≤ length (now sheet)) × (0 < parts) ⌝ }
+    ensures { λ r. ⌜ r ≡ hot parts part (rowAt (now (sheet .entry)) row) ⌝ }
+{
+    if dts_at(sheet, row) == 0 {
+        return stamps::part_of(parts, item_at(sheet, row)) == part;
+    }
+    false
+}
+
 // Flushes a portion; the answer is the number of rows flushed, by which the clock goes up.
 pub fn flush(sheet: &mut [u32], rows: usize, parts: u32, part: u32, clock: u32) -> u32
     requires { ⌜ (rowsNeed rows ≤ length (now sheet)) × (0 < parts) × (clock + rows < 2 ^ 32) ⌝ }
@@ -95,11 +106,9 @@ pub fn flush(sheet: &mut [u32], rows: usize, parts: u32, part: u32, clock: u32) 
     while i < rows {
         let row = i;
         i += 1;
-        if dts_at(sheet, row) == 0 {
-            if stamps::part_of(parts, item_at(sheet, row)) == part {
-                done += 1;
-                put_dts(sheet, row, clock + done);
-            }
+        if is_hot(sheet, row, parts, part) {
+            done += 1;
+            put_dts(sheet, row, clock + done);
         }
     }
     done

@@ -86,6 +86,7 @@ entry-other l k e x k′ e′ d h b = λ i. record { last = word 0 (64 * k′ + 
   where
     apart : (j i : ℕ) → j < 2 → i < 2 → 64 * k′ + 2 * e′ + j ≡ 64 * k + 2 * e + i → ⊥
     apart j i c f g = let s : k′ ≡ k = omega arith in d s (omega arith)
+
     word : (j p : ℕ) → p ≡ 64 * k′ + 2 * e′ + j → j < 2 → getD (sets l (64 * k + 2 * e) (entryWords x)) p 0 ≡ getD l p 0
     word j p g c = sets-other (entryWords x) l (64 * k + 2 * e) p (λ i f q. apart j i c f (sym g ∙ q))
 

@@ -2,10 +2,8 @@
 -- Assumes nothing.
 use borrow.Author.Needs.{needs}
 use Prim.Native.Nat.{_≤_, _-_}
-use mathlib.Core.Path.{_≡_, sym, ap, _∙_}
-use mathlib.Core.Bool.{_&&_}
+use mathlib.Core.Path.{sym, _∙_}
 use native.Mathlib.Omega.{arith}
-use borrow.Author.Tests.{eq-eqb, ne-eqb}
 use Rattle.sheets.specs.Layout.{rowAt}
 use Rattle.sheets.proofs.PairTurns.{Arriving, arriving-first, arriving-room, arriving-one, arriving-none, arriving-end}
 use Rattle.sheets.proofs.arrivals.write_met.Statement.{statement}
@@ -23,20 +21,17 @@ loop-holds c = (search needs, arriving-first _ _ _ _ _ _)
 add-i : tie.Need-add-i Inv-loop μ-loop
 add-i c = search needs
 
-item-at-requires : tie.Need-item-at-requires Inv-loop μ-loop
-item-at-requires c κs = search needs
-
-items-match-requires : tie.Need-items-match-requires Inv-loop μ-loop
-items-match-requires c κs = search needs
-
-dts-at-requires : tie.Need-dts-at-requires Inv-loop μ-loop
-dts-at-requires c κs = search needs
+is-met-requires : tie.Need-is-met-requires Inv-loop μ-loop
+is-met-requires c κs = search needs
 
 cast-put-told : tie.Need-cast-put-told Inv-loop μ-loop
 cast-put-told c = search needs
 
+item-at-requires : tie.Need-item-at-requires Inv-loop μ-loop
+item-at-requires c κs = search needs
+
 put-told-requires : tie.Need-put-told-requires Inv-loop μ-loop
-put-told-requires c κs = arriving-room _ _ _ _ _ _ _ _ _ (c .before .before .before .before .before .before .before .loop .inv .1) (c .before .before .before .before .before .before .loop-test .taken) (rw (← c .before .before .before .before .before .item-at .ensures, ← c .before .before .before .before .items-match .ensures, c .before .before .before .if1 .taken, ← c .before .before .dts-at .ensures) (eq-eqb _ _ (c .before .if2 .taken))) (c .before .before .before .before .before .before .before .before .before .before .pre .2)
+put-told-requires c κs = arriving-room _ _ _ _ _ _ _ _ _ (c .before .before .before .before .before .loop .inv .1) (c .before .before .before .before .loop-test .taken) (sym (c .before .before .before .is-met .ensures) ∙ c .before .before .if1 .taken) (c .before .before .before .before .before .before .before .before .pre .2)
 
 add-w : tie.Need-add-w Inv-loop μ-loop
 add-w c = search needs
@@ -45,19 +40,13 @@ loop-less : tie.Need-loop-less Inv-loop μ-loop
 loop-less c = search needs
 
 loop-again : tie.Need-loop-again Inv-loop μ-loop
-loop-again c = (omega arith, arriving-one _ _ _ _ _ _ _ _ _ (c .before .before .before .before .before .before .before .before .before .before .loop .inv .1) _ (c .before .before .before .before .before .before .before .before .before .loop-test .taken) (rw (← c .before .before .before .before .before .before .before .before .item-at .ensures, ← c .before .before .before .before .before .before .before .items-match .ensures, c .before .before .before .before .before .before .if1 .taken, ← c .before .before .before .before .before .dts-at .ensures) (eq-eqb _ _ (c .before .before .before .before .if2 .taken))) (rw (← c .before .before .before .before .before .before .before .before .item-at .ensures) (c .before .before .put-told .ensures)))
+loop-again c = (omega arith, arriving-one _ _ _ _ _ _ _ _ _ (c .before .before .before .before .before .before .before .before .loop .inv .1) _ (c .before .before .before .before .before .before .before .loop-test .taken) (sym (c .before .before .before .before .before .before .is-met .ensures) ∙ c .before .before .before .before .before .if1 .taken) (rw (← c .before .before .before .item-at .ensures) (c .before .before .put-told .ensures)))
 
 loop-less-2 : tie.Need-loop-less-2 Inv-loop μ-loop
 loop-less-2 c = search needs
 
 loop-again-2 : tie.Need-loop-again-2 Inv-loop μ-loop
-loop-again-2 c = (omega arith, arriving-none _ _ _ _ _ _ _ _ _ (c .before .before .before .before .before .before .loop .inv .1) (c .before .before .before .before .before .loop-test .taken) (rw (← c .before .before .before .before .item-at .ensures, ← c .before .before .before .items-match .ensures, c .before .before .if1 .taken, ← c .before .dts-at .ensures) (ne-eqb _ _ (c .if2 .left))))
-
-loop-less-3 : tie.Need-loop-less-3 Inv-loop μ-loop
-loop-less-3 c = search needs
-
-loop-again-3 : tie.Need-loop-again-3 Inv-loop μ-loop
-loop-again-3 c = (omega arith, arriving-none _ _ _ _ _ _ _ _ _ (c .before .before .before .before .loop .inv .1) (c .before .before .before .loop-test .taken) (rw (← c .before .before .item-at .ensures, ← c .before .items-match .ensures, c .if1 .left)))
+loop-again-2 c = (omega arith, arriving-none _ _ _ _ _ _ _ _ _ (c .before .before .before .loop .inv .1) (c .before .before .loop-test .taken) (sym (c .before .is-met .ensures) ∙ c .if1 .left))
 
 same-length : tie.Need-same-length Inv-loop μ-loop
 same-length c = search needs
@@ -73,17 +62,14 @@ write-met-spec =
     μ-loop
     loop-holds
     add-i
-    item-at-requires
-    items-match-requires
-    dts-at-requires
+    is-met-requires
     cast-put-told
+    item-at-requires
     put-told-requires
     add-w
     loop-less
     loop-again
     loop-less-2
     loop-again-2
-    loop-less-3
-    loop-again-3
     same-length
     returns)

@@ -4,7 +4,6 @@ use borrow.Author.Needs.{needs}
 use Prim.Native.Nat.{_≤_, _-_}
 use mathlib.Core.Path.{_≡_, sym, _∙_}
 use native.Mathlib.Omega.{arith}
-use borrow.Author.Tests.{eq-eqb, ne-eqb}
 use Rattle.sheets.proofs.RowTurns.{Flushing, flushing-first, flushing-hot, flushing-cold}
 use Rattle.sheets.proofs.rows.flush.Statement.{statement}
 use Rattle.sheets.proofs.rows.flush.Tie as tie
@@ -18,14 +17,35 @@ abbrev μ-loop : tie.MeasureT-loop
 loop-holds : tie.Need-loop-holds Inv-loop μ-loop
 loop-holds c = (search needs, flushing-first _ _ _ _)
 
+add-i : tie.Need-add-i Inv-loop μ-loop
+add-i c = search needs
+
+is-hot-requires : tie.Need-is-hot-requires Inv-loop μ-loop
+is-hot-requires c κs = search needs
+
+add-done : tie.Need-add-done Inv-loop μ-loop
+add-done c = search needs
+
+add-put-dts : tie.Need-add-put-dts Inv-loop μ-loop
+add-put-dts c = search needs
+
+put-dts-requires : tie.Need-put-dts-requires Inv-loop μ-loop
+put-dts-requires c κs = search needs
+
+loop-less : tie.Need-loop-less Inv-loop μ-loop
+loop-less c = search needs
+
 loop-again : tie.Need-loop-again Inv-loop μ-loop
-loop-again c = (omega arith, rw (c .before .before .put-dts .ensures) (flushing-hot _ _ _ _ _ _ _ (c .before .before .before .before .before .before .before .before .before .before .before .before .loop .inv .1) (rw (eq-eqb _ _ (sym (c .before .before .before .before .before .before .before .before .before .dts-at .ensures) ∙ c .before .before .before .before .before .before .before .before .if1 .taken), ← c .before .before .before .before .before .before .item-at .ensures, eq-eqb _ _ (sym (c .before .before .before .before .before .part-of .ensures .0) ∙ c .before .before .before .before .if2 .taken)))))
+loop-again c = (omega arith, rw (c .before .before .put-dts .ensures) (flushing-hot _ _ _ _ _ _ _ (c .before .before .before .before .before .before .before .before .loop .inv .1) (sym (c .before .before .before .before .before .is-hot .ensures) ∙ c .before .before .before .before .if1 .taken)))
+
+loop-less-2 : tie.Need-loop-less-2 Inv-loop μ-loop
+loop-less-2 c = search needs
 
 loop-again-2 : tie.Need-loop-again-2 Inv-loop μ-loop
-loop-again-2 c = (omega arith, flushing-cold _ _ _ _ _ _ _ (c .before .before .before .before .before .before .before .before .loop .inv .1) (rw (eq-eqb _ _ (sym (c .before .before .before .before .before .dts-at .ensures) ∙ c .before .before .before .before .if1 .taken), ← c .before .before .item-at .ensures, ne-eqb _ _ (λ e. c .if2 .left (c .before .part-of .ensures .0 ∙ e)))))
+loop-again-2 c = (omega arith, flushing-cold _ _ _ _ _ _ _ (c .before .before .before .before .loop .inv .1) (sym (c .before .is-hot .ensures) ∙ c .if1 .left))
 
-loop-again-3 : tie.Need-loop-again-3 Inv-loop μ-loop
-loop-again-3 c = (omega arith, flushing-cold _ _ _ _ _ _ _ (c .before .before .before .before .loop .inv .1) (rw (ne-eqb _ _ (λ e. c .if1 .left (c .before .dts-at .ensures ∙ e)))))
+same-length : tie.Need-same-length Inv-loop μ-loop
+same-length c = search needs
 
 returns : tie.Need-returns Inv-loop μ-loop
 returns c = let e : c .before .loop .i ≡ c .before .before .before .args .rows = omega arith in
@@ -38,18 +58,14 @@ flush-spec =
     Inv-loop
     μ-loop
     loop-holds
-    (λ c. search needs)
-    (λ c κs. search needs)
-    (λ c κs. search needs)
-    (λ c κs. search needs)
-    (λ c. search needs)
-    (λ c. search needs)
-    (λ c κs. search needs)
-    (λ c. search needs)
+    add-i
+    is-hot-requires
+    add-done
+    add-put-dts
+    put-dts-requires
+    loop-less
     loop-again
-    (λ c. search needs)
+    loop-less-2
     loop-again-2
-    (λ c. search needs)
-    loop-again-3
-    (λ c. search needs)
+    same-length
     returns)
