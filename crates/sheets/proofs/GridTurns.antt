@@ -15,7 +15,7 @@ use Rattle.stamps.specs.declared.Source.{Source}
 use Rattle.stamps.specs.declared.Item.{Item}
 use Rattle.stamps.specs.Counting.{keep}
 use Rattle.sheets.specs.Layout.{Told, pairsNeed, putPair}
-use Rattle.sheets.specs.Pairs.{Table, Pair, across, down, every, position, wanted, wantedPairs, tell, tellAll, putFrom, NextIs, leftRows, leftFrom, SpotIs, past, Writes}
+use Rattle.sheets.specs.Pairs.{Table, Pair, across, down, every, position, wanted, wantedPairs, tell, told, putFrom, NextIs, leftRows, leftFrom, SpotIs, past, Writes}
 use Rattle.sheets.specs.declared.pairs.Scope.{Scope}
 use Rattle.sheets.specs.declared.pairs.Written.{Written}
 use Rattle.sheets.proofs.PairTurns.{Handing, handing-first, handing-next, handing-room, handing-end}
@@ -40,12 +40,12 @@ length-down : (i n m : ℕ) → length (down i n m) ≡ n * m
 length-down i zero m = omega arith
 length-down i (suc n) m = rw (length-append, length-across i 0 m, length-down (suc i) n m, suc-mul) (omega arith)
 
+length-left : (m i j k : ℕ) → length (leftRows m i j k) ≤ k * m
+length-left m i j zero = omega arith
+length-left m i j (suc k) = rw (length-append, length-across i j (m - j), length-down (suc i) k m, suc-mul) (omega arith)
+
 pub product-few : (n m : ℕ) → n ≤ 4096 → m ≤ 4096 → n * m ≤ 16777216
 product-few n m h b = le-trans (mul-le-mul-left n b) (mul-le-mul-right 4096 h)
-
--- what is written of pairs of a table
-abbrev pub told : Source → Table → List Pair → List Told
-told s t = tellAll s (λ i. t .a .row i .item) (λ i. t .b .row i .item)
 
 module _ (scope : Scope) (t : Table) where
   -- the pair at a spot
@@ -143,9 +143,12 @@ module _ (scope : Scope) (t : Table) where
     tallied-end l = omega (arith, rw (left-none i j l) at (h .sum), ap length left-every)
 
   -- no more pairs than the grid has
+  left-size : (i j : ℕ) → length (leftFrom scope t i j) ≤ t .a .count * t .b .count
+  left-size i j = le-trans (length-keep (wanted scope t) (leftRows (t .b .count) i j (t .a .count - i)))
+      (le-trans (length-left (t .b .count) i j (t .a .count - i)) (mul-le-mul-right (t .b .count) (omega arith)))
+
   pub left-few : t .a .count ≤ 4096 → t .b .count ≤ 4096 → length (leftFrom scope t 0 0) ≤ 16777216
-  unfolding wantedPairs
-  left-few h b = rw left-every (omega (arith, length-keep (wanted scope t) (every t), length-down 0 (t .a .count) (t .b .count), product-few (t .a .count) (t .b .count) h b))
+  left-few h b = le-trans (left-size 0 0) (product-few (t .a .count) (t .b .count) h b)
 
   -- ---- writing
 
@@ -156,15 +159,19 @@ module _ (scope : Scope) (t : Table) where
     pub sum : n + length (leftFrom scope t i j) ≡ length all
     pub hands : Handing (told s t (take room all)) (told s t (take (room - n) (leftFrom scope t i j))) o out n
     pub ends : past t next (take (room - n) (leftFrom scope t i j)) ≡ past t from (take room all)
+    pub few : length all ≤ t .a .count * t .b .count
+    pub within : next ≤ t .a .count * t .b .count
 
-  pub writing-first : (s : Source) (row col from room : ℕ) (o : List ℕ) (i j : ℕ) → SpotIs scope t row col i j
+  pub writing-first : (s : Source) (row col from room : ℕ) (o : List ℕ) (i j : ℕ) → SpotIs scope t row col i j → from ≤ t .a .count * t .b .count
       → Writing s (leftFrom scope t row col) from room o o 0 from i j
-  writing-first s row col from room o i j h = record {
+  writing-first s row col from room o i j h k = record {
     spot = spot-here row col i j h;
     in-room = omega arith;
     sum = rw (h .none-between) (omega arith);
     hands = rw (sub-zero, h .none-between) (handing-first _ o);
     ends = rw (sub-zero, h .none-between);
+    few = left-size row col;
+    within = k;
   }
 
   module _ (s : Source) (all : List Pair) (from room : ℕ) (o out : List ℕ) (n next i j : ℕ) (h : Writing s all from room o out n next i j) (l : i < t .a .count) where
@@ -182,6 +189,8 @@ module _ (scope : Scope) (t : Table) where
       sum = omega (arith, rw (left-one i j i j (h .spot) l, x .none-between) at (h .sum));
       hands = rw (← x .none-between) (handing-next _ o out n _ _ out′ (rw (ahead b) at (h .hands)) e);
       ends = rw (← x .none-between, add-one (i * t .b .count + j)) (rw (ahead b) at (h .ends));
+      few = h .few;
+      within = omega (arith, h .spot .in-row l, suc-mul i (t .b .count), mul-le-mul-right (t .b .count) l);
     }
 
     pub writing-full : room ≤ n → Writes s t all from room o out (record { pairs = n; more = true; next = next })
@@ -192,6 +201,8 @@ module _ (scope : Scope) (t : Table) where
           more = sym more;
           next = rw more (rw none at (h .ends));
           out = handing-end _ o out n (rw none at (h .hands)) .1;
+          few = omega (arith, h .sum, h .few);
+          within = h .within;
         }
 
   pub writing-end : (s : Source) (all : List Pair) (from room : ℕ) (o out : List ℕ) (n next i j : ℕ) → Writing s all from room o out n next i j → t .a .count ≤ i
@@ -204,6 +215,8 @@ module _ (scope : Scope) (t : Table) where
         more = sym more;
         next = rw more;
         out = handing-end _ o out n (rw (none, take-nil) at (h .hands)) .1;
+        few = omega (arith, h .sum, h .few);
+        within = omega arith;
       }
 
 -- nothing is wanted, and the grid has no columns
@@ -211,4 +224,4 @@ pub writing-none : (s : Source) (t : Table) (all : List Pair) (from room : ℕ) 
     → Writes s t all from room o o (record { pairs = 0; more = false; next = 0 })
 unfolding putFrom
 writing-none s t all from room o e z = let more : ltb room 0 ≡ false = le-ltb room 0 (omega arith) in
-    record { pairs = rw (e, take-nil); more = rw (e, more); next = rw (e, more, z, mul-zero); out = rw (e, take-nil) }
+    record { pairs = rw (e, take-nil); more = rw (e, more); next = rw (e, more, z, mul-zero); out = rw (e, take-nil); few = omega arith; within = omega arith }

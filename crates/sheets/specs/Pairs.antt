@@ -121,6 +121,10 @@ abbrev pub tellAll : Source → (ℕ → Item) → (ℕ → Item) → List Pair 
 tellAll s x y [] = []
 tellAll s x y (p ∷ ps) = tell s p (x (p .a)) (y (p .b)) ∷ tellAll s x y ps
 
+-- of pairs of a table's rows, seen from source s
+abbrev pub told : Source → Table → List Pair → List Told
+told s t = tellAll s (λ i. t .a .row i .item) (λ j. t .b .row j .item)
+
 -- written one after the other from pair number w on, every other word as it was
 unfoldable pub putFrom : ℕ → List Told → List ℕ → List ℕ
 putFrom w [] o = o
@@ -184,4 +188,6 @@ pub record Writes (s : Source) (t : Table) (ps : List Pair) (from room : ℕ) (o
   pub pairs : r .pairs ≡ length (take room ps)
   pub more : r .more ≡ ltb room (length ps)
   pub next : r .next ≡ cond (ltb room (length ps)) (past t from (take room ps)) (t .a .count * t .b .count)
-  pub out : o′ ≡ putFrom 0 (tellAll s (λ i. t .a .row i .item) (λ i. t .b .row i .item) (take room ps)) o
+  pub out : o′ ≡ putFrom 0 (told s t (take room ps)) o
+  pub few : r .pairs ≤ t .a .count * t .b .count
+  pub within : r .next ≤ t .a .count * t .b .count

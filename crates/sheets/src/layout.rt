@@ -7,7 +7,7 @@ ghost use mathlib.Core.Path.{_≡_};
 ghost use Prim.Native.Nat.{_+_, _≤_, _<_};
 ghost use lib.ListN.{length};
 ghost use Rattle.stamps.specs.Stamps.Laws.{stamp};
-ghost use Rattle.sheets.specs.Layout.{rowsNeed, rowAt, putRow, listNo, listNeed, entryAt, putEntry, pairsNeed, putPair};
+ghost use Rattle.sheets.specs.Layout.{rowsNeed, probeNeed, roomOf, rowAt, putRow, listNo, listNeed, entryAt, putEntry, pairsNeed, putPair};
 ghost use Rattle.sheets.specs.Pairs.{tell};
 
 const ROW: usize = 3;
@@ -17,6 +17,27 @@ const ENTRY: usize = 2;
 const LIST: usize = 64;
 
 const PAIR: usize = 3;
+
+// The words that so many rows take.
+pub fn rows_need(rows: u32) -> usize
+    ensures { λ r. ⌜ r ≡ rowsNeed rows ⌝ }
+{
+    ROW * (rows as usize)
+}
+
+// The words that the lists of so many partitions take, for both sources.
+pub fn probe_need(parts: u32) -> usize
+    ensures { λ r. ⌜ r ≡ probeNeed parts ⌝ }
+{
+    2 * LIST * (parts as usize)
+}
+
+// The pairs that an output of so many words has room for.
+pub fn room_of(words: usize) -> usize
+    ensures { λ r. ⌜ r ≡ roomOf words ⌝ }
+{
+    words / PAIR
+}
 
 pub fn item_at(sheet: &[u32], row: usize) -> Item
     requires { ⌜ rowsNeed (row + 1) ≤ length (now sheet) ⌝ }

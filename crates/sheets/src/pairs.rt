@@ -68,7 +68,12 @@ fn takes_row(scope: Scope, parts: u32, row: Row) -> bool
 {
     match scope {
         Scope::All => true,
-        Scope::Portion(part) => (row.dts != 0) & (stamps::part_of(parts, row.item) == part),
+        Scope::Portion(part) => {
+            if row.dts == 0 {
+                return false;
+            }
+            stamps::part_of(parts, row.item) == part
+        }
     }
 }
 
@@ -203,7 +208,7 @@ fn write_due(
     out: &mut [u32],
     room: usize,
 ) -> Written
-    requires { ⌜ Ready job (now own) (now facing) (now probe) (now counts) × (from .row ≤ job .rows) × (from .facing ≤ job .others) × (pairsNeed room ≤ length (now out)) ⌝ }
+    requires { ⌜ Ready job (now own) (now facing) (now probe) (now counts) × (from .row ≤ job .rows) × (from .facing ≤ job .others) × (position ≤ job .rows * job .others) × (pairsNeed room ≤ length (now out)) ⌝ }
     ensures { λ r. let t = tableOf job (now (own .entry)) (now (facing .entry)) (now (probe .entry)) (now (counts .entry)) in ⌜ Writes (job .source) t (leftFrom (job .scope) t (from .row) (from .facing)) position room (now (out .entry)) (now (out .exit)) r ⌝ }
 {
     let source = job.source;

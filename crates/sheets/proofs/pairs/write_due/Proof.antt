@@ -19,7 +19,7 @@ next-due-requires : tie.Need-next-due-requires Inv-loop μ-loop
 next-due-requires c κs = (c .before .before .before .before .pre .0, c .before .before .before .before .pre .1, c .before .before .before .before .pre .2)
 
 loop-holds : tie.Need-loop-holds Inv-loop μ-loop
-loop-holds c = writing-first _ _ _ _ _ _ _ _ _ _ (spot-here _ _ _ _ _ _ (c .next-due .ensures))
+loop-holds c = writing-first _ _ _ _ _ _ _ _ _ _ (spot-here _ _ _ _ _ _ (c .next-due .ensures)) (c .before .before .before .before .before .pre .3)
 
 same-length : tie.Need-same-length Inv-loop μ-loop
 same-length c = search needs
@@ -40,7 +40,7 @@ item-at-requires-2 : tie.Need-item-at-requires-2 Inv-loop μ-loop
 item-at-requires-2 c κs = omega (arith, c .before .before .before .before .before .before .before .before .before .before .pre .0 .facing-long, c .before .before .before .before .loop .inv .spot .in-row (c .before .before .before .loop-test .taken))
 
 put-told-requires : tie.Need-put-told-requires Inv-loop μ-loop
-put-told-requires c κs = writing-room _ _ _ _ _ _ _ _ _ _ _ _ (c .before .before .before .before .before .loop .inv) (c .before .before .before .before .loop-test .taken) (c .before .before .before .if1 .left) (c .before .before .before .before .before .before .before .before .before .before .before .pre .3)
+put-told-requires c κs = writing-room _ _ _ _ _ _ _ _ _ _ _ _ (c .before .before .before .before .before .loop .inv) (c .before .before .before .before .loop-test .taken) (c .before .before .before .if1 .left) (c .before .before .before .before .before .before .before .before .before .before .before .pre .4)
 
 add-pairs : tie.Need-add-pairs Inv-loop μ-loop
 add-pairs c = search needs

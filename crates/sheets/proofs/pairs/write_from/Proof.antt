@@ -17,7 +17,7 @@ rem-t13 : tie.Need-rem-t13
 rem-t13 c = search needs
 
 write-due-requires : tie.Need-write-due-requires
-write-due-requires c κs = (c .before .before .before .before .before .before .pre .0, div-le-of-le-mul _ (rw mul-comm at (c .before .before .before .before .before .before .pre .1)), le-of-lt (mod-lt _ (pos-of-ne-zero (c .before .if1 .left))), c .before .before .before .before .before .before .pre .2)
+write-due-requires c κs = (c .before .before .before .before .before .before .pre .0, div-le-of-le-mul _ (rw mul-comm at (c .before .before .before .before .before .before .pre .1)), le-of-lt (mod-lt _ (pos-of-ne-zero (c .before .if1 .left))), c .before .before .before .before .before .before .pre .1, c .before .before .before .before .before .before .pre .2)
 
 same-length : tie.Need-same-length
 same-length c = search needs
