@@ -1,5 +1,5 @@
 -- Counting and choosing by a test, for every layer.
-use mathlib.Core.Bool.{Bool, true, false, cond}
+use mathlib.Core.Bool.{Bool, true, false, cond, _&&_}
 use mathlib.Core.List.{List, [], _∷_, _++_}
 use Prim.Native.Nat.{ℕ, zero, suc, _+_, max}
 use lib.Dec.{ltb}
@@ -23,6 +23,12 @@ top f (suc n) = max (top f n) (f n)
 unfoldable pub values : {X : Type 0} → (ℕ → X) → ℕ → List X
 values f zero = []
 values f (suc n) = values f n ++ (f n ∷ [])
+
+-- every test of a list holds
+abbrev pub allOf : List Bool → Bool
+allOf [] = true
+allOf (b ∷ []) = b
+allOf (b ∷ c ∷ bs) = b && allOf (c ∷ bs)
 
 -- those of a list that pass a test, in their order
 abbrev pub keep : {X : Type 0} → (X → Bool) → List X → List X

@@ -7,6 +7,7 @@ use Prim.Native.Nat.{ℕ}
 use lib.Dec.{eqb}
 use Rattle.stamps.specs.declared.Message.{Message}
 use Rattle.stamps.specs.declared.Row.{Row}
+use Rattle.stamps.specs.Counting.{allOf}
 use Rattle.stamps.specs.Keys.{itemOf, partOf}
 use Rattle.stamps.specs.Keys.Meaning.{itemOf-is, partOf-is}
 use Rattle.stamps.specs.Stamps.{presentAt, together}
@@ -36,10 +37,6 @@ sums =
     ∷ []
 
 -- every one of them is true
-abbrev pub allTrue : List Bool → Bool
-allTrue [] = true
-allTrue (b ∷ bs) = b && allTrue bs
-
-pub sums-hold : allTrue sums ≡ true
+pub sums-hold : allOf sums ≡ true
 unfolding sums
 sums-hold = simp (together-is, presentAt-is, alive-is, partOf-is, itemOf-is)

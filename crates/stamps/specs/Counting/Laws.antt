@@ -1,7 +1,7 @@
 -- Laws of counting and choosing, and the tests as a ruleset for omega. By induction on the count or the list.
 -- Assumes nothing.
 use mathlib.Core.Path.{_≡_, refl, sym, _∙_}
-use mathlib.Core.Bool.{Bool, true, false, cond, _&&_}
+use mathlib.Core.Bool.{Bool, true, false, cond, _&&_, false≢true}
 use mathlib.Core.Logic.{_≢_}
 use mathlib.Core.List.{List, [], _∷_, _++_}
 use Prim.Native.Nat.{ℕ, zero, suc, _+_, _≤_, _<_}
@@ -10,12 +10,27 @@ use lib.Dec.{eqb}
 use lib.ListN.{length, length-append, length-set, getD, set, List·getD-append}
 use lib.Seq.{getD-at, ext-getD, getD-set-same, getD-set-other}
 use borrow.Author.Tests.{ltb-true, ltb-false, leb-true, leb-false, eqb-true, eqb-false}
-use Rattle.stamps.specs.Counting.{bit, tally, top, values, keep}
+use Rattle.stamps.specs.Counting.{bit, tally, top, values, allOf, keep}
 
 pub eqb-ne : (i j : ℕ) → eqb i j ≡ false → i ≢ j
 eqb-ne i j = eqb-false i j
 
 pub ruleset tests = (ltb-true, ltb-false, leb-true, leb-false, eqb-true, eqb-ne)
+
+-- both halves of a test that holds
+pub both : (u v : Bool) → (u && v) ≡ true → (u ≡ true) × (v ≡ true)
+both true v h = (refl, h)
+both false v h = absurd (false≢true h)
+
+-- what a list of tests says, test by test
+abbrev pub Each : List Bool → Type 0
+Each [] = Unit
+Each (b ∷ bs) = (b ≡ true) × Each bs
+
+pub each : (bs : List Bool) → allOf bs ≡ true → Each bs
+each [] h = tt
+each (b ∷ []) h = (h, tt)
+each (b ∷ c ∷ bs) h = let p = both b (allOf (c ∷ bs)) h in (p .0, each (c ∷ bs) (p .1))
 
 -- the second test matters only where the first holds
 pub and-cong : (u : Bool) {v w : Bool} → (u ≡ true → v ≡ w) → (u && v) ≡ (u && w)

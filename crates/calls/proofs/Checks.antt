@@ -1,0 +1,96 @@
+-- What the checks have seen to, and the laws of checks in order.
+-- Assumes nothing.
+use mathlib.Core.Path.{_≡_, refl, sym, ap, _∙_}
+use mathlib.Core.Bool.{Bool, true, false, cond, not, _&&_}
+use mathlib.Core.List.{List, [], _∷_, _++_}
+use Prim.Native.Nat.{ℕ, zero, suc, _+_, _*_, _^_, _≤_, _<_}
+use native.Mathlib.Nat.{le-trans, mul-le-mul-left, mul-le-mul-right}
+use native.Mathlib.Omega.{arith}
+use lib.Dec.{leb, eqb}
+use lib.ListN.{length, getD}
+use borrow.Author.Tests.{eqb-true}
+use Rattle.stamps.specs.Counting.Laws.{tests, both, Each, each}
+use Rattle.sheets.specs.Layout.{rowsNeed, probeNeed}
+use Rattle.calls.specs.Refusals.{Check, verdict, between, sizeTests, sizesFit, numberTests, numbersFit, countsFit, sessionFits}
+use Rattle.calls.specs.declared.types.Session.{Session}
+use Rattle.calls.specs.declared.refusals.Verdict.{Verdict}
+use Rattle.calls.specs.declared.refusals.Verdict.the-variants.{Good, No}
+
+-- the product of two words
+pub product-fits : (x y : ℕ) → x < 2 ^ 32 → y < 2 ^ 32 → x * y < 2 ^ 64
+product-fits x y h b =
+    let low : x ≤ 4294967295 = omega arith in
+    let high : y ≤ 4294967295 = omega arith in
+    let e : x * y ≤ 4294967295 * 4294967295 = le-trans (mul-le-mul-left x high) (mul-le-mul-right 4294967295 low) in omega arith
+
+-- ---- number 1, taken apart
+
+between-is : (low high n : ℕ) → between low high n ≡ true → (low ≤ n) × (n ≤ high)
+between-is low high n h = let p = both (leb low n) (leb n high) h in omega (arith, tests, p)
+
+pub record Sizes (p m n a b probe : ℕ) : Type 0 where
+  pub parts : (1 ≤ p) × (p ≤ 16)
+  pub slots : (1 ≤ m) × (m ≤ 1024)
+  pub limit : (1 ≤ n) × (n ≤ 4096)
+  pub a-long : rowsNeed n ≤ a
+  pub b-long : rowsNeed n ≤ b
+  pub probe-long : probeNeed p ≤ probe
+
+pub sizes-are : (p m n a b probe : ℕ) → sizesFit p m n a b probe ≡ true → Sizes p m n a b probe
+sizes-are p m n a b probe h = let t : Each (sizeTests p m n a b probe) = each (sizeTests p m n a b probe) h in
+    record {
+      parts = between-is 1 16 p (t .0);
+      slots = between-is 1 1024 m (t .1 .0);
+      limit = between-is 1 4096 n (t .1 .1 .0);
+      a-long = omega (arith, tests);
+      b-long = omega (arith, tests);
+      probe-long = omega (arith, tests);
+    }
+
+-- what a worker may take for granted of a record that passed number 1
+pub record Fits (t : Session) (a b probe : ℕ) : Type 0 where
+  pub sizes : Sizes (t .parts) (t .slots) (t .limit) a b probe
+  pub a-few : t .a .rows ≤ t .limit
+  pub b-few : t .b .rows ≤ t .limit
+  pub clock : t .clock ≤ 16384
+  pub next : t .next ≤ t .a .rows * t .b .rows
+  pub short : (k : ℕ) → k < 2 * t .parts → getD (t .counts) k 0 ≤ 32
+
+counts-are : (counts : List ℕ) (n : ℕ) → countsFit counts n ≡ true → (k : ℕ) → k < n → getD counts k 0 ≤ 32
+counts-are counts zero h k b = absurd (omega arith)
+counts-are counts (suc n) h k b = let p = both (countsFit counts n) (leb (getD counts n 0) 32) h in go (eqb k n) refl (counts-are counts n (p .0) k) (p .1)
+  where
+    go : (u : Bool) → eqb k n ≡ u → (k < n → getD counts k 0 ≤ 32) → leb (getD counts n 0) 32 ≡ true → getD counts k 0 ≤ 32
+    go true e ih q = rw (eqb-true k n e) (omega (arith, tests))
+    go false e ih q = ih (omega (arith, tests))
+
+pub fits-are : (t : Session) (a b probe : ℕ) → sessionFits t a b probe ≡ true → Fits t a b probe
+unfolding sessionFits
+fits-are t a b probe h =
+    let p = both (sizesFit (t .parts) (t .slots) (t .limit) a b probe) _ h in
+    let q = both (numbersFit (t .limit) (t .clock) (t .a .rows) (t .b .rows) (t .next)) (countsFit (t .counts) (2 * t .parts)) (p .1) in
+    let e : Each (numberTests (t .limit) (t .clock) (t .a .rows) (t .b .rows) (t .next)) = each (numberTests (t .limit) (t .clock) (t .a .rows) (t .b .rows) (t .next)) (q .0) in
+    record {
+      sizes = sizes-are _ _ _ _ _ _ (p .0);
+      a-few = omega (arith, tests);
+      b-few = omega (arith, tests);
+      clock = omega (arith, tests);
+      next = omega (arith, tests);
+      short = counts-are (t .counts) (2 * t .parts) (q .1);
+    }
+
+-- the three ways through `session_fits`
+module _ (t : Session) (a b probe : ℕ) where
+  pub session-sizes : sizesFit (t .parts) (t .slots) (t .limit) a b probe ≡ false → false ≡ sessionFits t a b probe
+  unfolding sessionFits
+  session-sizes e = rw e
+
+  pub session-numbers : sizesFit (t .parts) (t .slots) (t .limit) a b probe ≡ true → numbersFit (t .limit) (t .clock) (t .a .rows) (t .b .rows) (t .next) ≡ false
+      → false ≡ sessionFits t a b probe
+  unfolding sessionFits
+  session-numbers e f = rw (e, f)
+
+  pub session-good : (r : Bool) → sizesFit (t .parts) (t .slots) (t .limit) a b probe ≡ true → numbersFit (t .limit) (t .clock) (t .a .rows) (t .b .rows) (t .next) ≡ true
+      → r ≡ countsFit (t .counts) (2 * t .parts) → r ≡ sessionFits t a b probe
+  unfolding sessionFits
+  session-good r e f g = rw (e, f) g

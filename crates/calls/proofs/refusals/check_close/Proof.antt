@@ -1,0 +1,28 @@
+-- `calls::refusals::check_close` meets its contract: each return is the first check that fails, or none.
+-- Assumes nothing.
+use borrow.Author.Needs.{needs}
+use Rattle.calls.specs.Refusals.{verdict}
+use Rattle.calls.proofs.refusals.check_close.Statement.{statement}
+use Rattle.calls.proofs.refusals.check_close.Tie as tie
+
+session-fits-requires : tie.Need-session-fits-requires
+session-fits-requires c κs = search needs
+
+returns : tie.Need-returns
+unfolding verdict
+returns c = rw (← c .before .session-fits .ensures, c .if1 .taken)
+
+is-closed-requires : tie.Need-is-closed-requires
+is-closed-requires c κs = search needs
+
+returns-2 : tie.Need-returns-2
+unfolding verdict
+returns-2 c = rw (← c .before .before .before .session-fits .ensures, c .before .before .if1 .left, ← c .before .is-closed .ensures, c .if2 .taken)
+
+returns-3 : tie.Need-returns-3
+unfolding verdict
+returns-3 c = rw (← c .before .before .before .session-fits .ensures, c .before .before .if1 .left, ← c .before .is-closed .ensures, c .if2 .left)
+
+pub check-close-spec : {M : Type 1} → statement M
+check-close-spec =
+    tie.close (tie.spec session-fits-requires returns is-closed-requires returns-2 returns-3)

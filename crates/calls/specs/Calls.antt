@@ -1,0 +1,103 @@
+-- What each call answers and leaves: the record, every word of the sheets and of the output.
+use mathlib.Core.Bool.{Bool, false, cond}
+use mathlib.Core.List.{List, []}
+use Prim.Native.Nat.{ℕ, _*_}
+use lib.Dec.{ltb}
+use lib.ListN.{length, take, replicate}
+use Rattle.stamps.specs.declared.Source.{Source}
+use Rattle.stamps.specs.declared.Source.the-variants.{A}
+use Rattle.stamps.specs.declared.Item.{Item}
+use Rattle.stamps.specs.Keys.{itemOf}
+use Rattle.stamps.specs.Sources.{other}
+use Rattle.sheets.specs.Layout.{roomOf}
+use Rattle.sheets.specs.Pairs.{Pair, Table, pairsFrom, past, tellAll, told, putFrom}
+use Rattle.sheets.specs.Rows.{portionRows, latest}
+use Rattle.sheets.specs.declared.pairs.Scope.the-variants.{All}
+use Rattle.calls.specs.World.{World, countOf, rowsOf, seenFrom, flush, store, note, shut, move}
+use Rattle.calls.specs.Refusals.{verdict, sizesFit, roomFor, makeRoom, arrived, idle, ran, checks}
+use Rattle.calls.specs.declared.types.Session.{Session}
+use Rattle.calls.specs.declared.types.Call.{Call}
+use Rattle.calls.specs.declared.types.Call.the-variants.{Arrive, Evict, Run, Close, Drain}
+use Rattle.calls.specs.declared.types.Why.{Why}
+use Rattle.calls.specs.declared.types.Why.the-variants.{BadSheet}
+use Rattle.calls.specs.declared.types.Answer.{Answer}
+use Rattle.calls.specs.declared.types.Answer.the-variants.{Opened, Taken, Flushed, Ran, Shut, More, Done, Refused}
+use Rattle.calls.specs.declared.types.Reply.{Reply}
+use Rattle.calls.specs.declared.refusals.Verdict.{Verdict}
+use Rattle.calls.specs.declared.refusals.Verdict.the-variants.{Good, No}
+
+-- an answer, the record and the sheets, and the output
+pub record After : Type 0 where
+  pub answer : Answer
+  pub world : World
+  pub out : List ℕ
+
+abbrev pub after : Answer → World → List ℕ → After
+after n w o = record { answer = n; world = w; out = o }
+
+-- ---- what a call that is not refused does
+
+-- "flush one portion first .. Only then does the clock go up by one and the row is stored"
+unfoldable pub arrives : Source → Item → World → List ℕ → After
+arrives s item w o = let x = makeRoom (roomFor w) w in
+    after (Taken (length (arrived s item x))) (store s item x)
+    (putFrom 0 (tellAll s (λ i. item) (λ j. rowsOf x (other s) j .item) (arrived s item x)) o)
+
+-- "Evict flushes one named portion and answers the rows flushed"
+unfoldable pub evicts : Source → ℕ → World → List ℕ → After
+evicts s q w o = after (Flushed (portionRows (w .session .parts) q (rowsOf w s) (countOf w s))) (flush s q w) o
+
+-- "nothing is written, no entry. Otherwise .. one entry is added, even when no pair was written"
+unfoldable pub runs : Source → ℕ → World → List ℕ → After
+runs s q w o =
+    cond (idle w s q) (after (Ran 0) w o)
+    (after (Ran (length (ran s q w))) (note s q (latest (w .session .parts) q (rowsOf w s) (countOf w s)) w)
+    (putFrom 0 (told s (seenFrom s w) (ran s q w)) o))
+
+-- the pairs that drains have still to write
+abbrev pub owed : World → List Pair
+owed w = pairsFrom All (w .session .next) (seenFrom A w)
+
+-- "If any remain, the position becomes one past the last pair written and the answer is More; if none remains, it becomes (A rows) x (B rows) and the answer is Done"
+unfoldable pub drains : World → List ℕ → After
+drains w o = let t = seenFrom A w in let room = roomOf (length o) in let ps = take room (owed w) in
+    after (cond (ltb room (length (owed w))) More Done (length ps))
+    (move (cond (ltb room (length (owed w))) (past t (w .session .next) ps) (t .a .count * t .b .count)) w)
+    (putFrom 0 (told A t ps) o)
+
+unfoldable pub effect : World → List ℕ → Call → After
+effect w o (Arrive s m) = arrives s (itemOf m) w o
+effect w o (Evict s q) = evicts s q w o
+effect w o (Run s q) = runs s q w o
+effect w o (Close s) = after Shut (shut s w) o
+effect w o Drain = drains w o
+
+-- ---- every call
+
+-- "A refusal hands the session record back equal and writes no word anywhere"
+abbrev pub settle : Verdict → World → List ℕ → After → After
+settle Good w o t = t
+settle (No y) w o t = after (Refused y) w o
+
+unfoldable pub afterCall : World → List ℕ → Call → After
+afterCall w o c = settle (verdict (checks w c (roomOf (length o)))) w o (effect w o c)
+
+-- ---- the opening
+
+-- "Opening gives clock 0, no rows, nothing closed, empty lists, position 0, and writes in no sheet"
+abbrev pub fresh : ℕ → ℕ → ℕ → Session
+fresh p m n = record {
+  parts = p;
+  slots = m;
+  limit = n;
+  clock = 0;
+  a = record { rows = 0; closed = false };
+  b = record { rows = 0; closed = false };
+  counts = replicate 32 0;
+  next = 0;
+}
+
+-- "a refused opening, which was given none, hands back one of zeros with nothing closed"
+unfoldable pub opens : ℕ → ℕ → ℕ → ℕ → ℕ → ℕ → Reply
+opens p m n a b probe =
+    cond (sizesFit p m n a b probe) (record { answer = Opened; session = fresh p m n }) (record { answer = Refused BadSheet; session = fresh 0 0 0 })

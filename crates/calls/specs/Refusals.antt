@@ -1,0 +1,143 @@
+-- When the box says no: the checks of each call, in the order of document 01's table.
+use mathlib.Core.Bool.{Bool, true, cond, not, _&&_, _||_}
+use mathlib.Core.List.{List, [], _∷_, _++_}
+use Prim.Native.Nat.{ℕ, zero, suc, _+_, _*_}
+use lib.Dec.{ltb, leb, eqb}
+use lib.ListN.{length, getD}
+use Rattle.stamps.specs.declared.Source.{Source}
+use Rattle.stamps.specs.declared.Source.the-variants.{A, B}
+use Rattle.stamps.specs.declared.Message.{Message}
+use Rattle.stamps.specs.declared.Item.{Item}
+use Rattle.stamps.specs.Counting.{tally, allOf}
+use Rattle.stamps.specs.Keys.{inRange, itemOf}
+use Rattle.stamps.specs.Sources.{other}
+use Rattle.sheets.specs.Layout.{rowsNeed, probeNeed}
+use Rattle.sheets.specs.Lists.{probedAt}
+use Rattle.sheets.specs.Pairs.{Pair, arrivalPairs, wantedPairs}
+use Rattle.sheets.specs.Rows.{memoryRows, spooled, victim}
+use Rattle.sheets.specs.declared.pairs.Scope.the-variants.{Portion}
+use Rattle.sheets.specs.declared.rows.Largest.{Largest}
+use Rattle.calls.specs.World.{World, pick, countOf, rowsOf, sideOf, seenFrom, flush}
+use Rattle.calls.specs.declared.types.Session.{Session}
+use Rattle.calls.specs.declared.types.Call.{Call}
+use Rattle.calls.specs.declared.types.Call.the-variants.{Arrive, Evict, Run, Close, Drain}
+use Rattle.calls.specs.declared.types.Why.{Why}
+use Rattle.calls.specs.declared.types.Why.the-variants.{BadSheet, BadKey, BadPart, Closed, SheetFull, ListFull, StillOpen, RoomShort}
+use Rattle.calls.specs.declared.refusals.Verdict.{Verdict}
+use Rattle.calls.specs.declared.refusals.Verdict.the-variants.{Good, No}
+use Rattle.calls.specs.declared.arriving.Room.{Room}
+use Rattle.calls.specs.declared.arriving.Room.the-variants.{Enough, Flush}
+
+-- ---- checks in order
+
+pub record Check : Type 0 where
+  pub fails : Bool
+  pub why : Why
+
+abbrev pub check : Bool → Why → Check
+check u y = record { fails = u; why = y }
+
+-- the first that fails
+unfoldable pub verdict : List Check → Verdict
+verdict [] = Good
+verdict (c ∷ cs) = cond (c .fails) (No (c .why)) (verdict cs)
+
+-- ---- number 1, BadSheet
+
+abbrev pub between : ℕ → ℕ → ℕ → Bool
+between low high n = leb low n && leb n high
+
+-- "P, M or N out of range; a sheet too short"
+abbrev pub sizeTests : ℕ → ℕ → ℕ → ℕ → ℕ → ℕ → List Bool
+sizeTests p m n a b probe =
+    between 1 16 p ∷ between 1 1024 m ∷ between 1 4096 n ∷ leb (rowsNeed n) a ∷ leb (rowsNeed n) b ∷ leb (probeNeed p) probe ∷ []
+
+abbrev pub sizesFit : ℕ → ℕ → ℕ → ℕ → ℕ → ℕ → Bool
+sizesFit p m n a b probe = allOf (sizeTests p m n a b probe)
+
+-- "a row count above N; clock above 16384; .. position above A rows x B rows"
+abbrev pub numberTests : ℕ → ℕ → ℕ → ℕ → ℕ → List Bool
+numberTests n clock rowsA rowsB next = leb rowsA n ∷ leb rowsB n ∷ leb clock 16384 ∷ leb next (rowsA * rowsB) ∷ []
+
+abbrev pub numbersFit : ℕ → ℕ → ℕ → ℕ → ℕ → Bool
+numbersFit n clock rowsA rowsB next = allOf (numberTests n clock rowsA rowsB next)
+
+-- "an entry count above 32", of the first n lists
+abbrev pub countsFit : List ℕ → ℕ → Bool
+countsFit counts zero = true
+countsFit counts (suc n) = countsFit counts n && leb (getD counts n 0) 32
+
+unfoldable pub sessionFits : Session → ℕ → ℕ → ℕ → Bool
+sessionFits t a b probe =
+    sizesFit (t .parts) (t .slots) (t .limit) a b probe
+    && (numbersFit (t .limit) (t .clock) (t .a .rows) (t .b .rows) (t .next) && countsFit (t .counts) (2 * t .parts))
+
+-- ---- an arrival
+
+-- "If M or more rows are in memory"
+abbrev pub full : World → Bool
+full w = leb (w .session .slots) (memoryRows (rowsOf w A) (countOf w A) + memoryRows (rowsOf w B) (countOf w B))
+
+abbrev pub victimOf : World → Largest
+victimOf w = victim (w .session .parts) (rowsOf w A) (countOf w A) (rowsOf w B) (countOf w B)
+
+-- what has to be flushed for one more row
+unfoldable pub roomFor : World → Room
+roomFor w = cond (full w) (Flush (victimOf w .source) (victimOf w .part)) Enough
+
+abbrev pub makeRoom : Room → World → World
+makeRoom Enough w = w
+makeRoom (Flush s q) w = flush s q w
+
+-- the pairs of an arrival in a box that has room
+abbrev pub arrived : Source → Item → World → List Pair
+arrived s item w = arrivalPairs (countOf w s) item (rowsOf w (other s)) (countOf w (other s))
+
+-- ---- a run
+
+-- "If the portion has no spooled row, or its list's last entry has ProbeTS equal to the clock"
+abbrev pub idle : World → Source → ℕ → Bool
+idle w s q = eqb (tally (λ i. spooled (w .session .parts) q (rowsOf w s i)) (countOf w s)) 0 || probedAt (w .session .clock) (sideOf w s .list q)
+
+abbrev pub ran : Source → ℕ → World → List Pair
+ran s q w = wantedPairs (Portion q) (seenFrom s w)
+
+-- ---- the table, read from the top, for each call with the room of its output
+
+abbrev pub bothClosed : Session → Bool
+bothClosed t = t .a .closed && t .b .closed
+
+-- a named portion: numbers 1, 3 and 4
+abbrev pub portionChecks : Session → ℕ → ℕ → ℕ → ℕ → List Check
+portionChecks t q a b probe = check (not (sessionFits t a b probe)) BadSheet ∷ check (leb (t .parts) q) BadPart ∷ check (bothClosed t) Closed ∷ []
+
+-- a new row, but for its pairs: numbers 1, 2, 4 and 5
+abbrev pub rowChecks : Session → Source → Message → ℕ → ℕ → ℕ → List Check
+rowChecks t s m a b probe =
+    check (not (sessionFits t a b probe)) BadSheet
+    ∷ check (not (inRange m)) BadKey
+    ∷ check (pick s (t .a) (t .b) .closed) Closed
+    ∷ check (leb (t .limit) (pick s (t .a) (t .b) .rows)) SheetFull
+    ∷ []
+
+abbrev pub closeChecks : Session → Source → ℕ → ℕ → ℕ → List Check
+closeChecks t s a b probe = check (not (sessionFits t a b probe)) BadSheet ∷ check (pick s (t .a) (t .b) .closed) Closed ∷ []
+
+abbrev pub drainChecks : Session → ℕ → ℕ → ℕ → ℕ → List Check
+drainChecks t room a b probe =
+    check (not (sessionFits t a b probe)) BadSheet ∷ check (not (bothClosed t)) StillOpen ∷ check (eqb room 0) (RoomShort 1) ∷ []
+
+-- the pairs have to fit the room
+abbrev pub roomCheck : ℕ → ℕ → Check
+roomCheck room n = check (ltb room n) (RoomShort n)
+
+unfoldable pub checks : World → Call → ℕ → List Check
+checks w (Arrive s m) room =
+    rowChecks (w .session) s m (length (w .a)) (length (w .b)) (length (w .probe))
+    ++ (roomCheck room (length (arrived s (itemOf m) (makeRoom (roomFor w) w))) ∷ [])
+checks w (Evict s q) room = portionChecks (w .session) q (length (w .a)) (length (w .b)) (length (w .probe))
+checks w (Run s q) room =
+    portionChecks (w .session) q (length (w .a)) (length (w .b)) (length (w .probe))
+    ++ cond (idle w s q) [] (check (leb 32 (length (sideOf w s .list q))) ListFull ∷ roomCheck room (length (ran s q w)) ∷ [])
+checks w (Close s) room = closeChecks (w .session) s (length (w .a)) (length (w .b)) (length (w .probe))
+checks w Drain room = drainChecks (w .session) room (length (w .a)) (length (w .b)) (length (w .probe))

@@ -1,0 +1,26 @@
+-- What the calls' workers promise each other: numbers and words, whatever the sheets that they are not lent hold.
+use mathlib.Core.Path.{_≡_}
+use mathlib.Core.List.{List}
+use Prim.Native.Nat.{ℕ, _≤_, _<_}
+use Rattle.sheets.specs.Layout.{rowsNeed}
+use Rattle.calls.specs.Calls.{After, after}
+use Rattle.calls.specs.World.{World}
+use Rattle.calls.specs.declared.types.Session.{Session}
+use Rattle.calls.specs.declared.types.Reply.{Reply}
+
+abbrev pub world : Session → List ℕ → List ℕ → List ℕ → World
+world t a b probe = record { session = t; a = a; b = b; probe = probe }
+
+-- what a call hands back, with the sheets and the output as it leaves them
+abbrev pub leaves : Reply → List ℕ → List ℕ → List ℕ → List ℕ → After
+leaves r a b probe o = after (r .answer) (world (r .session) a b probe) o
+
+-- what they ask of the rows: a record that passed number 1, and row sheets of these lengths
+pub record Rows (t : Session) (a b : ℕ) : Type 0 where
+  pub some-parts : 0 < t .parts
+  pub few-parts : t .parts ≤ 16
+  pub clock : t .clock ≤ 32768
+  pub a-few : t .a .rows ≤ 4096
+  pub b-few : t .b .rows ≤ 4096
+  pub a-long : rowsNeed (t .a .rows) ≤ a
+  pub b-long : rowsNeed (t .b .rows) ≤ b

@@ -1,0 +1,98 @@
+-- The box in words: a session record, two row sheets and a probe sheet, and what may change in them.
+use mathlib.Core.Bool.{Bool, true}
+use mathlib.Core.List.{List}
+use Prim.Native.Nat.{ℕ, suc, _+_}
+use lib.ListN.{getD, set}
+use Rattle.stamps.specs.declared.Source.{Source}
+use Rattle.stamps.specs.declared.Source.the-variants.{A, B}
+use Rattle.stamps.specs.declared.Item.{Item}
+use Rattle.stamps.specs.declared.Row.{Row}
+use Rattle.stamps.specs.Sources.{other}
+use Rattle.sheets.specs.Layout.{rowAt, putRow, listNo, putEntry}
+use Rattle.sheets.specs.Lists.{listOf}
+use Rattle.sheets.specs.Rows.{portionRows, flushed, lay}
+use Rattle.sheets.specs.Pairs.{Side, Table}
+use Rattle.calls.specs.declared.types.Feed.{Feed}
+use Rattle.calls.specs.declared.types.Session.{Session}
+
+pub record World : Type 0 where
+  pub session : Session
+  pub a : List ℕ
+  pub b : List ℕ
+  pub probe : List ℕ
+
+-- ---- one source of the two
+
+abbrev pub pick : {X : Type 0} → Source → X → X → X
+pick A x y = x
+pick B x y = y
+
+abbrev pub feedOf : World → Source → Feed
+feedOf w s = pick s (w .session .a) (w .session .b)
+
+abbrev pub sheetOf : World → Source → List ℕ
+sheetOf w s = pick s (w .a) (w .b)
+
+abbrev pub countOf : World → Source → ℕ
+countOf w s = feedOf w s .rows
+
+abbrev pub closedOf : World → Source → Bool
+closedOf w s = feedOf w s .closed
+
+-- the rows of a source by number
+abbrev pub rowsOf : World → Source → ℕ → Row
+rowsOf w s = rowAt (sheetOf w s)
+
+abbrev pub sideOf : World → Source → Side
+sideOf w s = record { count = countOf w s; row = rowsOf w s; list = listOf (w .session .parts) (w .session .counts) (w .probe) s }
+
+-- the rows and lists, with source s in the first place
+abbrev pub seenFrom : Source → World → Table
+seenFrom s w = record { parts = w .session .parts; a = sideOf w s; b = sideOf w (other s) }
+
+-- ---- a field of the record changed
+
+abbrev pub withClock : ℕ → Session → Session
+withClock c t = record { parts = t .parts; slots = t .slots; limit = t .limit; clock = c; a = t .a; b = t .b; counts = t .counts; next = t .next }
+
+abbrev pub withFeed : Source → Feed → Session → Session
+withFeed A f t = record { parts = t .parts; slots = t .slots; limit = t .limit; clock = t .clock; a = f; b = t .b; counts = t .counts; next = t .next }
+withFeed B f t = record { parts = t .parts; slots = t .slots; limit = t .limit; clock = t .clock; a = t .a; b = f; counts = t .counts; next = t .next }
+
+abbrev pub withCounts : List ℕ → Session → Session
+withCounts l t = record { parts = t .parts; slots = t .slots; limit = t .limit; clock = t .clock; a = t .a; b = t .b; counts = l; next = t .next }
+
+abbrev pub withNext : ℕ → Session → Session
+withNext k t = record { parts = t .parts; slots = t .slots; limit = t .limit; clock = t .clock; a = t .a; b = t .b; counts = t .counts; next = k }
+
+-- another record, and another sheet of one source
+abbrev pub withSheet : Source → Session → List ℕ → World → World
+withSheet A t l w = record { session = t; a = l; b = w .b; probe = w .probe }
+withSheet B t l w = record { session = t; a = w .a; b = l; probe = w .probe }
+
+-- ---- what the calls are made of: each says which fields and which words it changes
+
+-- flush of a portion: one clock tick a row
+unfoldable pub flush : Source → ℕ → World → World
+flush s q w = let t = w .session in
+    withSheet s (withClock (t .clock + portionRows (t .parts) q (rowsOf w s) (countOf w s)) t)
+    (lay (flushed (t .parts) q (t .clock) (rowsOf w s)) (countOf w s) (sheetOf w s)) w
+
+-- "the clock goes up by one and the row is stored with ATS = clock, DTS 0"
+unfoldable pub store : Source → Item → World → World
+store s item w = let t = w .session in
+    withSheet s (withFeed s (record { rows = suc (countOf w s); closed = closedOf w s }) (withClock (suc (t .clock)) t))
+    (putRow (countOf w s) (record { item = item; ats = suc (t .clock); dts = 0 }) (sheetOf w s)) w
+
+-- "one entry is added .. (largest DTS .., clock)"
+unfoldable pub note : Source → ℕ → ℕ → World → World
+note s q last w = let t = w .session in let k = listNo (t .parts) s q in let n = getD (t .counts) k 0 in
+    record { session = withCounts (set (t .counts) k (suc n)) t; a = w .a; b = w .b; probe = putEntry k n (record { last = last; probe = t .clock }) (w .probe) }
+
+-- a source marked as closed
+unfoldable pub shut : Source → World → World
+shut s w = record { session = withFeed s (record { rows = countOf w s; closed = true }) (w .session); a = w .a; b = w .b; probe = w .probe }
+
+-- the drain position moved
+unfoldable pub move : ℕ → World → World
+move k w = record { session = withNext k (w .session); a = w .a; b = w .b; probe = w .probe }

@@ -1,0 +1,60 @@
+// The session record, the calls, and what they answer.
+use stamps::Message;
+use stamps::Source;
+
+// Of one source: rows accepted, and whether it is closed.
+pub struct Feed {
+    pub rows: u32,
+    pub closed: bool,
+}
+
+// P, M, N, the clock, the two sources, the entry count of each list by its number, and the drain position.
+pub struct Session {
+    pub parts: u32,
+    pub slots: u32,
+    pub limit: u32,
+    pub clock: u32,
+    pub a: Feed,
+    pub b: Feed,
+    pub counts: [u32; 32],
+    pub next: u32,
+}
+
+pub enum Call {
+    Arrive(Source, Message),
+    Evict(Source, u32),
+    Run(Source, u32),
+    Close(Source),
+    Drain,
+}
+
+// Why a call is refused. The last two are the program's.
+pub enum Why {
+    BadSheet,
+    BadKey,
+    BadPart,
+    Closed,
+    SheetFull,
+    ListFull,
+    StillOpen,
+    RoomShort(u32),
+    BadLine,
+    NoStart,
+}
+
+pub enum Answer {
+    Opened,
+    Taken(u32),
+    Flushed(u32),
+    Ran(u32),
+    Shut,
+    More(u32),
+    Done(u32),
+    Refused(Why),
+}
+
+// What a call hands back.
+pub struct Reply {
+    pub answer: Answer,
+    pub session: Session,
+}
