@@ -2,9 +2,11 @@
 use mathlib.Core.Path.{_≡_}
 use mathlib.Core.List.{List}
 use Prim.Native.Nat.{ℕ, _≤_, _<_}
-use Rattle.sheets.specs.Layout.{rowsNeed}
+use Rattle.stamps.specs.declared.Source.{Source}
+use Rattle.sheets.specs.Layout.{rowsNeed, rowAt}
+use Rattle.sheets.specs.Rows.{portionRows}
 use Rattle.calls.specs.Calls.{After, after}
-use Rattle.calls.specs.World.{World}
+use Rattle.calls.specs.World.{World, pick, flush}
 use Rattle.calls.specs.declared.types.Session.{Session}
 use Rattle.calls.specs.declared.types.Reply.{Reply}
 
@@ -24,3 +26,8 @@ pub record Rows (t : Session) (a b : ℕ) : Type 0 where
   pub b-few : t .b .rows ≤ 4096
   pub a-long : rowsNeed (t .a .rows) ≤ a
   pub b-long : rowsNeed (t .b .rows) ≤ b
+
+-- a portion flushed: the record, the rows flushed, and the sheets
+pub record Clears (s : Source) (q : ℕ) (t : Session) (a b : List ℕ) (t′ : Session) (n : ℕ) (a′ b′ : List ℕ) : Type 0 where
+  pub worlds : (probe : List ℕ) → world t′ a′ b′ probe ≡ flush s q (world t a b probe)
+  pub count : n ≡ portionRows (t .parts) q (rowAt (pick s a b)) (pick s (t .a) (t .b) .rows)

@@ -1,4 +1,5 @@
 // When the box says no: the checks that need no look at the rows.
+use crate::feeds::feed_of;
 use crate::types::Session;
 use crate::types::Why;
 use sheets::layout::probe_need;
@@ -6,7 +7,6 @@ use sheets::layout::rows_need;
 use stamps::Source;
 ghost use mathlib.Core.Path.{_≡_};
 ghost use Prim.Native.Nat.{_≤_};
-ghost use Rattle.calls.specs.World.{pick};
 ghost use Rattle.calls.specs.Refusals.{sizesFit, numbersFit, countsFit, sessionFits, verdict, portionChecks, closeChecks, drainChecks};
 
 // What the checks of a call find, in their order.
@@ -72,15 +72,6 @@ pub fn session_fits(session: Session, a: usize, b: usize, probe: usize) -> bool
     false
 }
 
-pub fn is_closed(session: Session, source: Source) -> bool
-    ensures { λ r. ⌜ r ≡ pick source (session .a) (session .b) .closed ⌝ }
-{
-    match source {
-        Source::A => session.a.closed,
-        Source::B => session.b.closed,
-    }
-}
-
 // Numbers 1, 3 and 4, for evict and run.
 pub fn check_portion(session: Session, part: u32, a: usize, b: usize, probe: usize) -> Verdict
     ensures { λ r. ⌜ r ≡ verdict (portionChecks session part a b probe) ⌝ }
@@ -104,7 +95,8 @@ pub fn check_close(session: Session, source: Source, a: usize, b: usize, probe: 
     if !session_fits(session, a, b, probe) {
         return Verdict::No(Why::BadSheet);
     }
-    if is_closed(session, source) {
+    let feed = feed_of(session, source);
+    if feed.closed {
         return Verdict::No(Why::Closed);
     }
     Verdict::Good

@@ -12,17 +12,17 @@ returns : tie.Need-returns
 unfolding verdict
 returns c = rw (← c .before .session-fits .ensures, c .if1 .taken)
 
-is-closed-requires : tie.Need-is-closed-requires
-is-closed-requires c κs = search needs
+feed-of-requires : tie.Need-feed-of-requires
+feed-of-requires c κs = search needs
 
 returns-2 : tie.Need-returns-2
 unfolding verdict
-returns-2 c = rw (← c .before .before .before .session-fits .ensures, c .before .before .if1 .left, ← c .before .is-closed .ensures, c .if2 .taken)
+returns-2 c = rw (← c .before .before .before .session-fits .ensures, c .before .before .if1 .left, ← c .before .feed-of .ensures, c .if2 .taken)
 
 returns-3 : tie.Need-returns-3
 unfolding verdict
-returns-3 c = rw (← c .before .before .before .session-fits .ensures, c .before .before .if1 .left, ← c .before .is-closed .ensures, c .if2 .left)
+returns-3 c = rw (← c .before .before .before .session-fits .ensures, c .before .before .if1 .left, ← c .before .feed-of .ensures, c .if2 .left)
 
 pub check-close-spec : {M : Type 1} → statement M
 check-close-spec =
-    tie.close (tie.spec session-fits-requires returns is-closed-requires returns-2 returns-3)
+    tie.close (tie.spec session-fits-requires returns feed-of-requires returns-2 returns-3)

@@ -1,0 +1,91 @@
+-- A call settled: by the first check that fails, or by what it does. One law for all calls.
+-- Assumes nothing.
+use mathlib.Core.Path.{_≡_, refl, sym, ap, _∙_}
+use mathlib.Core.Bool.{Bool, true, false, cond, not}
+use mathlib.Core.List.{List, [], _∷_, _++_}
+use Prim.Native.Nat.{ℕ, _+_, _≤_, _<_}
+use native.Mathlib.Omega.{arith}
+use lib.ListN.{length}
+use borrow.Author.Tests.{not-false}
+use Rattle.stamps.specs.declared.Source.{Source}
+use Rattle.sheets.specs.Layout.{rowsNeed, roomOf, rowAt}
+use Rattle.sheets.specs.Rows.{Flushes, portionRows}
+use Rattle.calls.specs.Calls.{After, after, effect, settle, afterCall, evicts}
+use Rattle.calls.specs.Refusals.{Check, check, verdict, sessionFits, checks, portionChecks}
+use Rattle.calls.specs.Work.{world, Rows, Clears}
+use Rattle.calls.specs.World.{World, pick, feedOf, sheetOf, countOf, withClock, withSheet, flush}
+use Rattle.calls.specs.declared.types.Call.{Call}
+use Rattle.calls.specs.declared.types.Why.{Why}
+use Rattle.calls.specs.declared.types.Why.the-variants.{BadSheet}
+use Rattle.calls.specs.declared.types.Answer.the-variants.{Refused, Flushed}
+use Rattle.calls.specs.declared.types.Session.{Session}
+use Rattle.calls.specs.declared.refusals.Verdict.{Verdict}
+use Rattle.calls.specs.declared.refusals.Verdict.the-variants.{Good, No}
+use Rattle.calls.proofs.Checks.{Fits, fits-are}
+
+pub settle-no : (w : World) (o : List ℕ) (c : Call) (y : Why) → verdict (checks w c (roomOf (length o))) ≡ No y → after (Refused y) w o ≡ afterCall w o c
+unfolding afterCall
+settle-no w o c y e = rw e
+
+pub settle-good : (w : World) (o : List ℕ) (c : Call) (x : After) → verdict (checks w c (roomOf (length o))) ≡ Good → x ≡ effect w o c → x ≡ afterCall w o c
+unfolding afterCall
+settle-good w o c x e h = rw e h
+
+-- ---- checks one after the other
+
+-- the first check let the call through
+pub verdict-first : (c : Check) (cs : List Check) → verdict (c ∷ cs) ≡ Good → c .fails ≡ false
+unfolding verdict
+verdict-first c cs h = go (c .fails) h
+  where
+    go : (u : Bool) → cond u (No (c .why)) (verdict cs) ≡ Good → u ≡ false
+    go true e = let z : _≡_ {A = ℕ} 0 1 = cc in absurd (omega arith)
+    go false e = refl
+
+-- the later checks matter where the first ones find nothing
+pub verdict-good : (cs ds : List Check) → verdict cs ≡ Good → verdict (cs ++ ds) ≡ verdict ds
+unfolding verdict
+verdict-good [] ds h = refl
+verdict-good (c ∷ cs) ds h = go (c .fails) h (verdict-good cs ds)
+  where
+    go : (u : Bool) → cond u (No (c .why)) (verdict cs) ≡ Good → (verdict cs ≡ Good → verdict (cs ++ ds) ≡ verdict ds) → cond u (No (c .why)) (verdict (cs ++ ds)) ≡ verdict ds
+    go true e ih = let z : _≡_ {A = ℕ} 0 1 = cc in absurd (omega arith)
+    go false e ih = ih e
+
+pub verdict-no : (cs ds : List Check) (y : Why) → verdict cs ≡ No y → verdict (cs ++ ds) ≡ No y
+unfolding verdict
+verdict-no [] ds y h = let z : _≡_ {A = ℕ} 0 1 = cc in absurd (omega arith)
+verdict-no (c ∷ cs) ds y h = go (c .fails) h (verdict-no cs ds y)
+  where
+    go : (u : Bool) → cond u (No (c .why)) (verdict cs) ≡ No y → (verdict cs ≡ No y → verdict (cs ++ ds) ≡ No y) → cond u (No (c .why)) (verdict (cs ++ ds)) ≡ No y
+    go true e ih = e
+    go false e ih = ih e
+
+-- ---- what the workers ask
+
+pub fits-rows : (t : Session) (a b probe : ℕ) → sessionFits t a b probe ≡ true → Rows t a b
+fits-rows t a b probe h = let f : Fits t a b probe = fits-are t a b probe h in
+    record {
+      some-parts = omega (arith, f .sizes .parts);
+      few-parts = f .sizes .parts .1;
+      clock = omega (arith, f .clock);
+      a-few = omega (arith, f .a-few, f .sizes .limit);
+      b-few = omega (arith, f .b-few, f .sizes .limit);
+      a-long = omega (arith, f .a-few, f .sizes .a-long);
+      b-long = omega (arith, f .b-few, f .sizes .b-long) }
+
+-- ---- a flush
+
+pub flush-is : (s : Source) (q : ℕ) (w : World) (n : ℕ) (l : List ℕ) → Flushes (w .session .parts) q (w .session .clock) (countOf w s) (sheetOf w s) n l
+    → withSheet s (withClock (w .session .clock + n) (w .session)) l w ≡ flush s q w
+unfolding flush
+flush-is s q w n l h = rw (h .count, h .sheet)
+
+pub evicted : (s : Source) (q : ℕ) (t : Session) (a b : List ℕ) (t′ : Session) (n : ℕ) (a′ b′ probe o : List ℕ) → Clears s q t a b t′ n a′ b′
+    → after (Flushed n) (world t′ a′ b′ probe) o ≡ evicts s q (world t a b probe) o
+unfolding evicts
+evicted s q t a b t′ n a′ b′ probe o h = ap (λ (w : World). after (Flushed n) w o) (h .worlds probe) ∙ ap (λ (k : ℕ). after (Flushed k) (flush s q (world t a b probe)) o) (h .count)
+
+-- a call that is not refused passed number 1
+pub good-rows : (t : Session) (a b probe : ℕ) (cs : List Check) → verdict (check (not (sessionFits t a b probe)) BadSheet ∷ cs) ≡ Good → Rows t a b
+good-rows t a b probe cs h = fits-rows t a b probe (not-false _ (verdict-first _ cs h))

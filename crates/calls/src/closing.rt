@@ -1,0 +1,36 @@
+// The closing of a source.
+use crate::feeds::feed_of;
+use crate::feeds::with_feed;
+use crate::refusals::Verdict;
+use crate::refusals::check_close;
+use crate::types::Answer;
+use crate::types::Feed;
+use crate::types::Reply;
+use crate::types::Session;
+use stamps::Source;
+ghost use mathlib.Core.Path.{_≡_};
+ghost use mathlib.Core.List.{List};
+ghost use Prim.Native.Nat.{ℕ};
+ghost use Rattle.calls.specs.declared.types.Call.the-variants.{Close};
+ghost use Rattle.calls.specs.Calls.{afterCall};
+ghost use Rattle.calls.specs.Work.{world, leaves};
+
+pub fn close(session: Session, source: Source, a: &[u32], b: &[u32], probe: &[u32]) -> Reply
+    ensures { λ r. ⌜ ((out : List ℕ) → leaves r (now (a .entry)) (now (b .entry)) (now (probe .entry)) out ≡ afterCall (world session (now (a .entry)) (now (b .entry)) (now (probe .entry))) out (Close source)) ⌝ }
+{
+    match check_close(session, source, a.len(), b.len(), probe.len()) {
+        Verdict::No(why) => Reply {
+            answer: Answer::Refused(why),
+            session,
+        },
+        Verdict::Good => {
+            let feed = feed_of(session, source);
+            let rows = feed.rows;
+            let closed = with_feed(session, source, Feed { rows, closed: true });
+            Reply {
+                answer: Answer::Shut,
+                session: closed,
+            }
+        }
+    }
+}

@@ -1,0 +1,69 @@
+// The flush of a named portion.
+use crate::refusals::Verdict;
+use crate::refusals::check_portion;
+use crate::types::Answer;
+use crate::types::Reply;
+use crate::types::Session;
+use sheets::rows::flush;
+use stamps::Source;
+ghost use mathlib.Core.Path.{_≡_};
+ghost use mathlib.Core.List.{List};
+ghost use Prim.Native.Nat.{ℕ};
+ghost use lib.ListN.{length};
+ghost use Rattle.calls.specs.declared.types.Call.the-variants.{Evict};
+ghost use Rattle.calls.specs.Calls.{afterCall};
+ghost use Rattle.calls.specs.Work.{world, leaves, Rows, Clears};
+
+// The session after a flush, and the rows flushed.
+pub struct Cleared {
+    pub session: Session,
+    pub rows: u32,
+}
+
+// Flushes a portion, and moves the clock.
+pub fn clear(session: Session, source: Source, part: u32, a: &mut [u32], b: &mut [u32]) -> Cleared
+    requires { ⌜ Rows session (length (now a)) (length (now b)) ⌝ }
+    ensures { λ r. ⌜ Clears source part session (now (a .entry)) (now (b .entry)) (r .session) (r .rows) (now (a .exit)) (now (b .exit)) ⌝ }
+{
+    let parts = session.parts;
+    let clock = session.clock;
+    let mut t = session;
+    match source {
+        Source::A => {
+            let rows = flush(a, session.a.rows as usize, parts, part, clock);
+            t.clock = clock + rows;
+            Cleared { session: t, rows }
+        }
+        Source::B => {
+            let rows = flush(b, session.b.rows as usize, parts, part, clock);
+            t.clock = clock + rows;
+            Cleared { session: t, rows }
+        }
+    }
+}
+
+pub fn evict(
+    session: Session,
+    source: Source,
+    part: u32,
+    a: &mut [u32],
+    b: &mut [u32],
+    probe: &[u32],
+) -> Reply
+    ensures { λ r. ⌜ ((out : List ℕ) → leaves r (now (a .exit)) (now (b .exit)) (now (probe .entry)) out ≡ afterCall (world session (now (a .entry)) (now (b .entry)) (now (probe .entry))) out (Evict source part)) ⌝ }
+{
+    match check_portion(session, part, a.len(), b.len(), probe.len()) {
+        Verdict::No(why) => Reply {
+            answer: Answer::Refused(why),
+            session,
+        },
+        Verdict::Good => {
+            let cleared = clear(session, source, part, a, b);
+            let t = cleared.session;
+            Reply {
+                answer: Answer::Flushed(cleared.rows),
+                session: t,
+            }
+        }
+    }
+}

@@ -1,0 +1,47 @@
+// The opening of a session.
+use crate::refusals::sizes_fit;
+use crate::types::Answer;
+use crate::types::Feed;
+use crate::types::Reply;
+use crate::types::Session;
+use crate::types::Why;
+ghost use mathlib.Core.Path.{_≡_};
+ghost use lib.ListN.{length};
+ghost use Rattle.calls.specs.Calls.{fresh, opens};
+
+fn new_session(parts: u32, slots: u32, limit: u32) -> Session
+    ensures { λ r. ⌜ r ≡ fresh parts slots limit ⌝ }
+{
+    let none = Feed {
+        rows: 0,
+        closed: false,
+    };
+    Session {
+        parts,
+        slots,
+        limit,
+        clock: 0,
+        a: none,
+        b: none,
+        counts: [0; 32],
+        next: 0,
+    }
+}
+
+// Opens a session on sheets of any content. A refused opening hands back a record of zeros.
+pub fn open(parts: u32, slots: u32, limit: u32, a: &[u32], b: &[u32], probe: &[u32]) -> Reply
+    ensures { λ r. ⌜ r ≡ opens parts slots limit (length (now (a .entry))) (length (now (b .entry))) (length (now (probe .entry))) ⌝ }
+{
+    if sizes_fit(parts, slots, limit, a.len(), b.len(), probe.len()) {
+        let session = new_session(parts, slots, limit);
+        return Reply {
+            answer: Answer::Opened,
+            session,
+        };
+    }
+    let session = new_session(0, 0, 0);
+    Reply {
+        answer: Answer::Refused(Why::BadSheet),
+        session,
+    }
+}
