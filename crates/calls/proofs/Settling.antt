@@ -72,7 +72,8 @@ fits-rows t a b probe h = let f : Fits t a b probe = fits-are t a b probe h in
       a-few = omega (arith, f .a-few, f .sizes .limit);
       b-few = omega (arith, f .b-few, f .sizes .limit);
       a-long = omega (arith, f .a-few, f .sizes .a-long);
-      b-long = omega (arith, f .b-few, f .sizes .b-long) }
+      b-long = omega (arith, f .b-few, f .sizes .b-long);
+    }
 
 -- ---- a flush
 

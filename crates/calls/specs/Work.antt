@@ -1,14 +1,24 @@
 -- What the calls' workers promise each other: numbers and words, whatever the sheets that they are not lent hold.
 use mathlib.Core.Path.{_≡_}
+use mathlib.Core.Bool.{Bool, true, false, cond}
 use mathlib.Core.List.{List}
 use Prim.Native.Nat.{ℕ, _≤_, _<_}
 use Rattle.stamps.specs.declared.Source.{Source}
+use Rattle.stamps.specs.declared.Source.the-variants.{A, B}
+use Rattle.stamps.specs.declared.Item.{Item}
+use Rattle.stamps.specs.declared.Row.{Row}
 use Rattle.sheets.specs.Layout.{rowsNeed, rowAt}
-use Rattle.sheets.specs.Rows.{portionRows}
+use Rattle.sheets.specs.Rows.{portionRows, flushed}
 use Rattle.calls.specs.Calls.{After, after}
 use Rattle.calls.specs.World.{World, pick, flush}
 use Rattle.calls.specs.declared.types.Session.{Session}
 use Rattle.calls.specs.declared.types.Reply.{Reply}
+use Rattle.calls.specs.declared.refusals.Verdict.{Verdict}
+use Rattle.calls.specs.declared.refusals.Verdict.the-variants.{Good, No}
+use Rattle.calls.specs.declared.arriving.Room.{Room}
+use Rattle.calls.specs.declared.arriving.Room.the-variants.{Enough, Flush}
+use Rattle.calls.specs.declared.arriving.Admission.{Admission}
+use Rattle.calls.specs.declared.arriving.Admission.the-variants as admission
 
 abbrev pub world : Session → List ℕ → List ℕ → List ℕ → World
 world t a b probe = record { session = t; a = a; b = b; probe = probe }
@@ -31,3 +41,20 @@ pub record Rows (t : Session) (a b : ℕ) : Type 0 where
 pub record Clears (s : Source) (q : ℕ) (t : Session) (a b : List ℕ) (t′ : Session) (n : ℕ) (a′ b′ : List ℕ) : Type 0 where
   pub worlds : (probe : List ℕ) → world t′ a′ b′ probe ≡ flush s q (world t a b probe)
   pub count : n ≡ portionRows (t .parts) q (rowAt (pick s a b)) (pick s (t .a) (t .b) .rows)
+
+-- ---- an arrival
+
+abbrev pub admitted : Verdict → Item → Admission
+admitted Good item = admission.Take item
+admitted (No y) item = admission.Deny y
+
+abbrev pub same : Source → Source → Bool
+same A A = true
+same A B = false
+same B A = false
+same B B = true
+
+-- the rows of source s once there is room
+abbrev pub rowsAfter : Room → Source → ℕ → ℕ → (ℕ → Row) → ℕ → Row
+rowsAfter Enough s parts clock f = f
+rowsAfter (Flush v q) s parts clock f = cond (same v s) (flushed parts q clock f) f

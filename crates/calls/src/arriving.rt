@@ -1,8 +1,175 @@
 // An arrival: room for the row, its pairs, and the row itself.
+use crate::evicting::clear;
+use crate::feeds::feed_of;
+use crate::feeds::with_feed;
+use crate::refusals::session_fits;
+use crate::types::Answer;
+use crate::types::Feed;
+use crate::types::Reply;
+use crate::types::Session;
+use crate::types::Why;
+use sheets::arrivals::count_met;
+use sheets::arrivals::count_met_after;
+use sheets::arrivals::write_met;
+use sheets::layout::put_row;
+use sheets::layout::room_of;
+use sheets::rows::count_memory;
+use sheets::rows::find_victim;
+use stamps::Item;
+use stamps::Made;
+use stamps::Message;
+use stamps::Row;
 use stamps::Source;
+ghost use mathlib.Core.Path.{_≡_};
+ghost use mathlib.Core.List.{List};
+ghost use Prim.Native.Nat.{ℕ, _+_, _≤_, _<_};
+ghost use lib.ListN.{length};
+ghost use Rattle.stamps.specs.Keys.{itemOf};
+ghost use Rattle.stamps.specs.Sources.{other};
+ghost use Rattle.stamps.specs.Counting.{tally};
+ghost use Rattle.sheets.specs.Layout.{rowsNeed, pairsNeed, rowAt};
+ghost use Rattle.sheets.specs.Pairs.{met, tellAll, putFrom};
+ghost use Rattle.calls.specs.declared.types.Call.the-variants.{Arrive};
+ghost use Rattle.calls.specs.Calls.{afterCall};
+ghost use Rattle.calls.specs.Refusals.{verdict, rowChecks, roomFor, makeRoom, arrived};
+ghost use Rattle.calls.specs.Work.{world, Rows, admitted, same, rowsAfter};
+ghost use Rattle.calls.specs.World.{rowsOf, pick, store};
 
 // What has to be flushed for one more row.
 pub enum Room {
     Enough,
     Flush(Source, u32),
+}
+
+// What the checks before the pairs find.
+pub enum Admission {
+    Take(Item),
+    Deny(Why),
+}
+
+// Numbers 1, 2, 4 and 5.
+fn admit(
+    session: Session,
+    source: Source,
+    message: Message,
+    a: usize,
+    b: usize,
+    probe: usize,
+) -> Admission
+    ensures { λ r. ⌜ r ≡ admitted (verdict (rowChecks session source message a b probe)) (itemOf message) ⌝ }
+{
+    if !session_fits(session, a, b, probe) {
+        return Admission::Deny(Why::BadSheet);
+    }
+    let Made::Good(item) = stamps::item_of(message) else {
+        return Admission::Deny(Why::BadKey);
+    };
+    let feed = feed_of(session, source);
+    if feed.closed {
+        return Admission::Deny(Why::Closed);
+    }
+    if session.limit <= feed.rows {
+        return Admission::Deny(Why::SheetFull);
+    }
+    Admission::Take(item)
+}
+
+// Is memory full, and what goes then?
+fn find_room(session: Session, a: &[u32], b: &[u32]) -> Room
+    requires { ⌜ Rows session (length (now a)) (length (now b)) ⌝ }
+    ensures { λ r. ⌜ ((probe : List ℕ) → r ≡ roomFor (world session (now (a .entry)) (now (b .entry)) probe)) ⌝ }
+{
+    let a_rows = session.a.rows as usize;
+    let b_rows = session.b.rows as usize;
+    let held = count_memory(a, a_rows) + count_memory(b, b_rows);
+    if (session.slots as usize) <= held {
+        let victim = find_victim(a, a_rows, b, b_rows, session.parts);
+        let source = victim.source;
+        return Room::Flush(source, victim.part);
+    }
+    Room::Enough
+}
+
+fn same_source(x: Source, y: Source) -> bool
+    ensures { λ r. ⌜ r ≡ same x y ⌝ }
+{
+    match x {
+        Source::A => match y {
+            Source::A => true,
+            Source::B => false,
+        },
+        Source::B => match y {
+            Source::A => false,
+            Source::B => true,
+        },
+    }
+}
+
+// The pairs that the item will make once there is room, told before the flush. The sheet is that of source.
+fn count_new(
+    sheet: &[u32],
+    rows: usize,
+    item: Item,
+    source: Source,
+    parts: u32,
+    room: Room,
+) -> usize
+    requires { ⌜ (rowsNeed rows ≤ length (now sheet)) × (0 < parts) ⌝ }
+    ensures { λ r. ⌜ ((clock : ℕ) → r ≡ tally (λ j. met item (rowsAfter room source parts clock (rowAt (now (sheet .entry))) j)) rows) ⌝ }
+{
+    match room {
+        Room::Enough => count_met(sheet, rows, item),
+        Room::Flush(victim, part) => {
+            if same_source(victim, source) {
+                return count_met_after(sheet, rows, item, parts, part);
+            }
+            count_met(sheet, rows, item)
+        }
+    }
+}
+
+// Makes room, and hands back the session with its clock.
+fn make_room(session: Session, room: Room, a: &mut [u32], b: &mut [u32]) -> Session
+    requires { ⌜ Rows session (length (now a)) (length (now b)) ⌝ }
+    ensures { λ r. ⌜ ((probe : List ℕ) → world r (now (a .exit)) (now (b .exit)) probe ≡ makeRoom room (world session (now (a .entry)) (now (b .entry)) probe)) ⌝ }
+{
+    match room {
+        Room::Enough => session,
+        Room::Flush(source, part) => {
+            let cleared = clear(session, source, part, a, b);
+            cleared.session
+        }
+    }
+}
+
+// Stores the row, and hands back the session with its clock and the row counted.
+fn store_row(session: Session, source: Source, item: Item, a: &mut [u32], b: &mut [u32]) -> Session
+    requires { ⌜ Rows session (length (now a)) (length (now b)) × (rowsNeed (pick source (session .a) (session .b) .rows + 1) ≤ length (pick source (now a) (now b))) ⌝ }
+    ensures { λ r. ⌜ ((probe : List ℕ) → world r (now (a .exit)) (now (b .exit)) probe ≡ store source item (world session (now (a .entry)) (now (b .entry)) probe)) ⌝ }
+{
+    let feed = feed_of(session, source);
+    let rows = feed.rows;
+    let clock = session.clock + 1;
+    let row = Row {
+        item,
+        ats: clock,
+        dts: 0,
+    };
+    let mut ticked = session;
+    ticked.clock = clock;
+    let taken = Feed {
+        rows: rows + 1,
+        closed: feed.closed,
+    };
+    let t = with_feed(ticked, source, taken);
+    match source {
+        Source::A => {
+            put_row(a, rows as usize, row);
+            t
+        }
+        Source::B => {
+            put_row(b, rows as usize, row);
+            t
+        }
+    }
 }

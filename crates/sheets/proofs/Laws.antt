@@ -14,7 +14,7 @@ use Rattle.stamps.specs.declared.Item.{Item}
 use Rattle.stamps.specs.declared.Row.{Row}
 use Rattle.stamps.specs.declared.Entry.{Entry}
 use Rattle.stamps.specs.Counting.{bit, tally, keep, upTo}
-use Rattle.stamps.specs.Counting.Laws.{tests, eqb-ne}
+use Rattle.stamps.specs.Counting.Laws.{tests, eqb-ne, tally-le}
 use Rattle.stamps.specs.Keys.{itemsMatch, partOf}
 use Rattle.stamps.specs.Keys.Laws.{match-part}
 use Rattle.stamps.specs.Stamps.{inMemory}
@@ -24,7 +24,7 @@ use Rattle.sheets.specs.Layout.Laws.{length-putRow, row-same, row-other,
 use Rattle.sheets.specs.Lists.{entries, probedAt}
 use Rattle.sheets.specs.Pairs.{Pair, Table, across, position, met, arrivalPairs, tellAll, putFrom, pairsAt, wantedPairs, pairsFrom}
 use Rattle.sheets.specs.declared.pairs.Scope.{Scope}
-use Rattle.sheets.specs.Rows.{hot, spooled, portionRows, latest, flushed, lay}
+use Rattle.sheets.specs.Rows.{hot, spooled, memoryRows, portionRows, latest, flushed, lay}
 
 -- ---- rows laid over a sheet
 
@@ -215,3 +215,7 @@ module _ (parts q clock : ℕ) (item : Item) (f : ℕ → Row) (i : ℕ) where
       go : (u : Bool) → itemsMatch item (f i .item) ≡ u → (u && (inMemory (f i) && not (eqb (partOf parts (f i .item)) q))) ≡ (u && inMemory (f i))
       go true m = rw (ne-eqb (partOf parts (f i .item)) q (λ d. e (match-part parts item (f i .item) m ∙ d)), and-true)
       go false m = refl
+
+-- no more memory rows than rows
+pub memory-few : (f : ℕ → Row) (n r : ℕ) → r ≡ memoryRows f n → r ≤ n
+memory-few f n r e = rw e (tally-le (λ i. inMemory (f i)) n)
