@@ -42,6 +42,14 @@ verdict-first c cs h = go (c .fails) h
     go true e = let z : _≡_ {A = ℕ} 0 1 = cc in absurd (omega arith)
     go false e = refl
 
+pub verdict-rest : (c : Check) (cs : List Check) → verdict (c ∷ cs) ≡ Good → verdict cs ≡ Good
+unfolding verdict
+verdict-rest c cs h = go (c .fails) h
+  where
+    go : (u : Bool) → cond u (No (c .why)) (verdict cs) ≡ Good → verdict cs ≡ Good
+    go true e = let z : _≡_ {A = ℕ} 0 1 = cc in absurd (omega arith)
+    go false e = e
+
 -- the later checks matter where the first ones find nothing
 pub verdict-good : (cs ds : List Check) → verdict cs ≡ Good → verdict (cs ++ ds) ≡ verdict ds
 unfolding verdict

@@ -37,11 +37,15 @@ after n w o = record { answer = n; world = w; out = o }
 
 -- ---- what a call that is not refused does
 
+-- in a box that has room: the row is stored, and its pairs are written
+unfoldable pub joins : Source → Item → World → List ℕ → After
+joins s item w o =
+    after (Taken (length (arrived s item w))) (store s item w)
+    (putFrom 0 (tellAll s (λ i. item) (λ j. rowsOf w (other s) j .item) (arrived s item w)) o)
+
 -- "flush one portion first .. Only then does the clock go up by one and the row is stored"
 unfoldable pub arrives : Source → Item → World → List ℕ → After
-arrives s item w o = let x = makeRoom (roomFor w) w in
-    after (Taken (length (arrived s item x))) (store s item x)
-    (putFrom 0 (tellAll s (λ i. item) (λ j. rowsOf x (other s) j .item) (arrived s item x)) o)
+arrives s item w o = joins s item (makeRoom (roomFor w) w) o
 
 -- "Evict flushes one named portion and answers the rows flushed"
 unfoldable pub evicts : Source → ℕ → World → List ℕ → After

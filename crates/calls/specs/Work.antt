@@ -2,7 +2,7 @@
 use mathlib.Core.Path.{_≡_}
 use mathlib.Core.Bool.{Bool, true, false, cond}
 use mathlib.Core.List.{List}
-use Prim.Native.Nat.{ℕ, _≤_, _<_}
+use Prim.Native.Nat.{ℕ, _+_, _≤_, _<_}
 use Rattle.stamps.specs.declared.Source.{Source}
 use Rattle.stamps.specs.declared.Source.the-variants.{A, B}
 use Rattle.stamps.specs.declared.Item.{Item}
@@ -31,7 +31,7 @@ leaves r a b probe o = after (r .answer) (world (r .session) a b probe) o
 pub record Rows (t : Session) (a b : ℕ) : Type 0 where
   pub some-parts : 0 < t .parts
   pub few-parts : t .parts ≤ 16
-  pub clock : t .clock ≤ 32768
+  pub clock : t .clock ≤ 65536
   pub a-few : t .a .rows ≤ 4096
   pub b-few : t .b .rows ≤ 4096
   pub a-long : rowsNeed (t .a .rows) ≤ a
@@ -58,3 +58,9 @@ same B B = true
 abbrev pub rowsAfter : Room → Source → ℕ → ℕ → (ℕ → Row) → ℕ → Row
 rowsAfter Enough s parts clock f = f
 rowsAfter (Flush v q) s parts clock f = cond (same v s) (flushed parts q clock f) f
+
+-- a row that was admitted: there is space for it in its sheet
+pub record Space (t : Session) (s : Source) (a b : ℕ) : Type 0 where
+  pub rows : Rows t a b
+  pub clock : t .clock ≤ 16384
+  pub space : rowsNeed (pick s (t .a) (t .b) .rows + 1) ≤ pick s a b

@@ -30,9 +30,9 @@ ghost use Rattle.stamps.specs.Counting.{tally};
 ghost use Rattle.sheets.specs.Layout.{rowsNeed, pairsNeed, rowAt};
 ghost use Rattle.sheets.specs.Pairs.{met, tellAll, putFrom};
 ghost use Rattle.calls.specs.declared.types.Call.the-variants.{Arrive};
-ghost use Rattle.calls.specs.Calls.{afterCall};
+ghost use Rattle.calls.specs.Calls.{joins, afterCall};
 ghost use Rattle.calls.specs.Refusals.{verdict, rowChecks, roomFor, makeRoom, arrived};
-ghost use Rattle.calls.specs.Work.{world, Rows, admitted, same, rowsAfter};
+ghost use Rattle.calls.specs.Work.{world, leaves, Rows, admitted, same, rowsAfter, Space};
 ghost use Rattle.calls.specs.World.{rowsOf, pick, store};
 
 // What has to be flushed for one more row.
@@ -170,6 +170,91 @@ fn store_row(session: Session, source: Source, item: Item, a: &mut [u32], b: &mu
         Source::B => {
             put_row(b, rows as usize, row);
             t
+        }
+    }
+}
+
+// The pairs that the item will make once there is room.
+fn count_pairs(
+    session: Session,
+    source: Source,
+    item: Item,
+    room: Room,
+    a: &[u32],
+    b: &[u32],
+) -> usize
+    requires { ⌜ Rows session (length (now a)) (length (now b)) ⌝ }
+    ensures { λ r. ⌜ ((probe : List ℕ) → r ≡ length (arrived source item (makeRoom room (world session (now (a .entry)) (now (b .entry)) probe)))) × (r ≤ 4096) ⌝ }
+{
+    let parts = session.parts;
+    match source {
+        Source::A => count_new(b, session.b.rows as usize, item, Source::B, parts, room),
+        Source::B => count_new(a, session.a.rows as usize, item, Source::A, parts, room),
+    }
+}
+
+// Writes the pairs of the item, in a box that has room.
+fn write_pairs(session: Session, source: Source, item: Item, a: &[u32], b: &[u32], out: &mut [u32])
+    requires { ⌜ Rows session (length (now a)) (length (now b)) × ((probe : List ℕ) → pairsNeed (length (arrived source item (world session (now a) (now b) probe))) ≤ length (now out)) ⌝ }
+    ensures { λ _. ⌜ ((probe : List ℕ) → let w = world session (now (a .entry)) (now (b .entry)) probe in now (out .exit) ≡ putFrom 0 (tellAll source (λ i. item) (λ j. rowsOf w (other source) j .item) (arrived source item w)) (now (out .entry))) ⌝ }
+{
+    let a_rows = session.a.rows;
+    let b_rows = session.b.rows;
+    match source {
+        Source::A => write_met(b, b_rows as usize, item, Source::A, a_rows, out),
+        Source::B => write_met(a, a_rows as usize, item, Source::B, b_rows, out),
+    }
+}
+
+// An arrival that is not refused: n is the number of its pairs.
+fn take_row(
+    session: Session,
+    source: Source,
+    item: Item,
+    room: Room,
+    n: u32,
+    a: &mut [u32],
+    b: &mut [u32],
+    out: &mut [u32],
+) -> Reply
+    requires { ⌜ Space session source (length (now a)) (length (now b)) × ((probe : List ℕ) → n ≡ length (arrived source item (makeRoom room (world session (now a) (now b) probe)))) × (pairsNeed n ≤ length (now out)) ⌝ }
+    ensures { λ r. ⌜ ((probe : List ℕ) → leaves r (now (a .exit)) (now (b .exit)) probe (now (out .exit)) ≡ joins source item (makeRoom room (world session (now (a .entry)) (now (b .entry)) probe)) (now (out .entry))) ⌝ }
+{
+    let t = make_room(session, room, a, b);
+    write_pairs(t, source, item, a, b, out);
+    let stored = store_row(t, source, item, a, b);
+    Reply {
+        answer: Answer::Taken(n),
+        session: stored,
+    }
+}
+
+pub fn arrive(
+    session: Session,
+    source: Source,
+    message: Message,
+    a: &mut [u32],
+    b: &mut [u32],
+    probe: &[u32],
+    out: &mut [u32],
+) -> Reply
+    ensures { λ r. ⌜ leaves r (now (a .exit)) (now (b .exit)) (now (probe .entry)) (now (out .exit)) ≡ afterCall (world session (now (a .entry)) (now (b .entry)) (now (probe .entry))) (now (out .entry)) (Arrive source message) ⌝ }
+{
+    match admit(session, source, message, a.len(), b.len(), probe.len()) {
+        Admission::Deny(why) => Reply {
+            answer: Answer::Refused(why),
+            session,
+        },
+        Admission::Take(item) => {
+            let room = find_room(session, a, b);
+            let n = count_pairs(session, source, item, room, a, b);
+            if room_of(out.len()) < n {
+                return Reply {
+                    answer: Answer::Refused(Why::RoomShort(n as u32)),
+                    session,
+                };
+            }
+            take_row(session, source, item, room, n as u32, a, b, out)
         }
     }
 }
