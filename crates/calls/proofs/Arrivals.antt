@@ -24,7 +24,7 @@ use Rattle.sheets.specs.Rows.{hot, flushed, lay}
 use Rattle.sheets.proofs.Laws.{length-lay, rows-lay, length-arrival}
 use Rattle.calls.specs.Calls.{After, after, joins, arrives, effect, afterCall}
 use Rattle.calls.specs.Refusals.{verdict, sessionFits, rowChecks, roomCheck, roomFor, makeRoom, arrived, checks}
-use Rattle.calls.specs.Work.{world, Rows, admitted, same, rowsAfter, Space}
+use Rattle.calls.specs.Work.{world, Fits, Rows, admitted, same, rowsAfter, Space}
 use Rattle.calls.specs.World.{World, pick, countOf, sheetOf, rowsOf, closedOf, withClock, withFeed, withSheet, flush, store}
 use Rattle.calls.specs.declared.types.Why.{Why}
 use Rattle.calls.specs.declared.types.Why.the-variants.{RoomShort}
@@ -33,7 +33,7 @@ use Rattle.calls.specs.declared.types.Answer.the-variants.{Taken, Refuse
 use Rattle.calls.specs.declared.refusals.Verdict.{Verdict}
 use Rattle.calls.specs.declared.refusals.Verdict.the-variants.{Good, No}
 use Rattle.calls.specs.declared.arriving.Admission.the-variants as admission
-use Rattle.calls.proofs.Checks.{Fits, fits-are}
+use Rattle.calls.proofs.Checks.{fits-are}
 use Rattle.calls.proofs.Settling.{settle-no, settle-good, verdict-first, verdict-rest, verdict-good, verdict-no, fits-rows}
 use Rattle.calls.specs.declared.types.Session.{Session}
 use Rattle.calls.specs.declared.arriving.Room.{Room}
@@ -92,12 +92,13 @@ rows-room (Flush B q) w B h j b = row-laid _ _ _ h j b
 pub arrived-count : (s : Source) (item : Item) (room : Room) (w : World) (r : ℕ) → rowsNeed (countOf w (other s)) ≤ length (sheetOf w (other s))
     → ((clock : ℕ) → r ≡ tally (λ j. met item (rowsAfter room (other s) (w .session .parts) clock (rowsOf w (other s)) j)) (countOf w (other s)))
     → (r ≡ length (arrived s item (makeRoom room w))) × (r ≤ countOf w (other s))
-arrived-count s item room w r h e =
-    (e (w .session .clock)
+arrived-count s item room w r h e = (
+  e (w .session .clock)
       ∙ tally-cong _ (λ j. met item (rowsOf (makeRoom room w) (other s) j)) (countOf w (other s)) (λ j b. ap (met item) (sym (rows-room room w (other s) h j b)))
       ∙ ap (tally (λ j. met item (rowsOf (makeRoom room w) (other s) j))) (sym (count-room room w (other s)))
       ∙ sym (length-arrival (countOf (makeRoom room w) s) item (rowsOf (makeRoom room w) (other s)) (countOf (makeRoom room w) (other s))),
-     rw (e 0) (tally-le _ (countOf w (other s))))
+  rw (e 0) (tally-le _ (countOf w (other s))),
+)
 
 pub pairs-fit : (s : Source) (item : Item) (w x : World) (n words : ℕ) → w ≡ x → n ≡ length (arrived s item x) → pairsNeed n ≤ words → pairsNeed (length (arrived s item w)) ≤ words
 pairs-fit s item w x n words e f h = rw (e, ← f) h
@@ -110,21 +111,23 @@ rows-made : (room : Room) (w : World) → RowsOf w → w .session .clock ≤ 163
 unfolding RowsOf flush
 rows-made Enough w h k = h
 rows-made (Flush A q) w h k = record {
-    some-parts = h .some-parts;
-    few-parts = h .few-parts;
-    clock = omega (arith, h .a-few, tally-le (λ i. hot (w .session .parts) q (rowsOf w A i)) (countOf w A));
-    a-few = h .a-few;
-    b-few = h .b-few;
-    a-long = rw length-lay (h .a-long);
-    b-long = h .b-long }
+  some-parts = h .some-parts;
+  few-parts = h .few-parts;
+  clock = omega (arith, h .a-few, tally-le (λ i. hot (w .session .parts) q (rowsOf w A i)) (countOf w A));
+  a-few = h .a-few;
+  b-few = h .b-few;
+  a-long = rw length-lay (h .a-long);
+  b-long = h .b-long;
+}
 rows-made (Flush B q) w h k = record {
-    some-parts = h .some-parts;
-    few-parts = h .few-parts;
-    clock = omega (arith, h .b-few, tally-le (λ i. hot (w .session .parts) q (rowsOf w B i)) (countOf w B));
-    a-few = h .a-few;
-    b-few = h .b-few;
-    a-long = h .a-long;
-    b-long = rw length-lay (h .b-long) }
+  some-parts = h .some-parts;
+  few-parts = h .few-parts;
+  clock = omega (arith, h .b-few, tally-le (λ i. hot (w .session .parts) q (rowsOf w B i)) (countOf w B));
+  a-few = h .a-few;
+  b-few = h .b-few;
+  a-long = h .a-long;
+  b-long = rw length-lay (h .b-long);
+}
 
 length-made : (room : Room) (w : World) (s : Source) → length (sheetOf (makeRoom room w) s) ≡ length (sheetOf w s)
 unfolding flush

@@ -10,8 +10,8 @@ use lib.Dec.{leb, eqb}
 use lib.ListN.{length, getD}
 use borrow.Author.Tests.{eqb-true}
 use Rattle.stamps.specs.Counting.Laws.{tests, both, Each, each}
-use Rattle.sheets.specs.Layout.{rowsNeed, probeNeed}
 use Rattle.calls.specs.Refusals.{Check, verdict, between, sizeTests, sizesFit, numberTests, numbersFit, countsFit, sessionFits}
+use Rattle.calls.specs.Work.{Sizes, Fits}
 use Rattle.calls.specs.declared.types.Session.{Session}
 use Rattle.calls.specs.declared.refusals.Verdict.{Verdict}
 use Rattle.calls.specs.declared.refusals.Verdict.the-variants.{Good, No}
@@ -28,14 +28,6 @@ product-fits x y h b =
 between-is : (low high n : ℕ) → between low high n ≡ true → (low ≤ n) × (n ≤ high)
 between-is low high n h = let p = both (leb low n) (leb n high) h in omega (arith, tests, p)
 
-pub record Sizes (p m n a b probe : ℕ) : Type 0 where
-  pub parts : (1 ≤ p) × (p ≤ 16)
-  pub slots : (1 ≤ m) × (m ≤ 1024)
-  pub limit : (1 ≤ n) × (n ≤ 4096)
-  pub a-long : rowsNeed n ≤ a
-  pub b-long : rowsNeed n ≤ b
-  pub probe-long : probeNeed p ≤ probe
-
 pub sizes-are : (p m n a b probe : ℕ) → sizesFit p m n a b probe ≡ true → Sizes p m n a b probe
 sizes-are p m n a b probe h = let t : Each (sizeTests p m n a b probe) = each (sizeTests p m n a b probe) h in
     record {
@@ -46,15 +38,6 @@ sizes-are p m n a b probe h = let t : Each (sizeTests p m n a b probe) = each (s
       b-long = omega (arith, tests);
       probe-long = omega (arith, tests);
     }
-
--- what a worker may take for granted of a record that passed number 1
-pub record Fits (t : Session) (a b probe : ℕ) : Type 0 where
-  pub sizes : Sizes (t .parts) (t .slots) (t .limit) a b probe
-  pub a-few : t .a .rows ≤ t .limit
-  pub b-few : t .b .rows ≤ t .limit
-  pub clock : t .clock ≤ 16384
-  pub next : t .next ≤ t .a .rows * t .b .rows
-  pub short : (k : ℕ) → k < 2 * t .parts → getD (t .counts) k 0 ≤ 32
 
 counts-are : (counts : List ℕ) (n : ℕ) → countsFit counts n ≡ true → (k : ℕ) → k < n → getD counts k 0 ≤ 32
 counts-are counts zero h k b = absurd (omega arith)

@@ -1,3 +1,4 @@
 mod Arrivals
 mod Checks
+mod Runs
 mod Settling

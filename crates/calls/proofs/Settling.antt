@@ -12,7 +12,7 @@ use Rattle.sheets.specs.Layout.{rowsNeed, roomOf, rowAt}
 use Rattle.sheets.specs.Rows.{Flushes, portionRows}
 use Rattle.calls.specs.Calls.{After, after, effect, settle, afterCall, evicts}
 use Rattle.calls.specs.Refusals.{Check, check, verdict, sessionFits, checks, portionChecks}
-use Rattle.calls.specs.Work.{world, Rows, Clears}
+use Rattle.calls.specs.Work.{world, Fits, Rows, Clears}
 use Rattle.calls.specs.World.{World, pick, feedOf, sheetOf, countOf, withClock, withSheet, flush}
 use Rattle.calls.specs.declared.types.Call.{Call}
 use Rattle.calls.specs.declared.types.Why.{Why}
@@ -21,7 +21,7 @@ use Rattle.calls.specs.declared.types.Answer.the-variants.{Refused, Flus
 use Rattle.calls.specs.declared.types.Session.{Session}
 use Rattle.calls.specs.declared.refusals.Verdict.{Verdict}
 use Rattle.calls.specs.declared.refusals.Verdict.the-variants.{Good, No}
-use Rattle.calls.proofs.Checks.{Fits, fits-are}
+use Rattle.calls.proofs.Checks.{fits-are}
 
 pub settle-no : (w : World) (o : List ℕ) (c : Call) (y : Why) → verdict (checks w c (roomOf (length o))) ≡ No y → after (Refused y) w o ≡ afterCall w o c
 unfolding afterCall
@@ -96,5 +96,8 @@ unfolding evicts
 evicted s q t a b t′ n a′ b′ probe o h = ap (λ (w : World). after (Flushed n) w o) (h .worlds probe) ∙ ap (λ (k : ℕ). after (Flushed k) (flush s q (world t a b probe)) o) (h .count)
 
 -- a call that is not refused passed number 1
+pub good-fits : (t : Session) (a b probe : ℕ) (cs : List Check) → verdict (check (not (sessionFits t a b probe)) BadSheet ∷ cs) ≡ Good → Fits t a b probe
+good-fits t a b probe cs h = fits-are t a b probe (not-false _ (verdict-first _ cs h))
+
 pub good-rows : (t : Session) (a b probe : ℕ) (cs : List Check) → verdict (check (not (sessionFits t a b probe)) BadSheet ∷ cs) ≡ Good → Rows t a b
 good-rows t a b probe cs h = fits-rows t a b probe (not-false _ (verdict-first _ cs h))

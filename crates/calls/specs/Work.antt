@@ -2,15 +2,26 @@
 use mathlib.Core.Path.{_≡_}
 use mathlib.Core.Bool.{Bool, true, false, cond}
 use mathlib.Core.List.{List}
-use Prim.Native.Nat.{ℕ, _+_, _≤_, _<_}
+use Prim.Native.Nat.{ℕ, _+_, _*_, _≤_, _<_}
+use lib.Dec.{ltb, leb}
+use lib.ListN.{length, getD}
 use Rattle.stamps.specs.declared.Source.{Source}
 use Rattle.stamps.specs.declared.Source.the-variants.{A, B}
 use Rattle.stamps.specs.declared.Item.{Item}
 use Rattle.stamps.specs.declared.Row.{Row}
-use Rattle.sheets.specs.Layout.{rowsNeed, rowAt}
-use Rattle.sheets.specs.Rows.{portionRows, flushed}
+use Rattle.stamps.specs.Sources.{other}
+use Rattle.sheets.specs.Layout.{rowsNeed, probeNeed, roomOf, rowAt}
+use Rattle.sheets.specs.Pairs.{told, putFrom}
+use Rattle.sheets.specs.declared.pairs.Job.{Job}
+use Rattle.sheets.specs.declared.pairs.Scope.{Scope}
+use Rattle.sheets.specs.Rows.{portionRows, latest, flushed}
 use Rattle.calls.specs.Calls.{After, after}
-use Rattle.calls.specs.World.{World, pick, flush}
+use Rattle.calls.specs.World.{World, pick, rowsOf, countOf, sideOf, seenFrom, flush, note}
+use Rattle.calls.specs.Refusals.{idle, ran}
+use Rattle.calls.specs.declared.types.Why.the-variants.{RoomShort}
+use Rattle.calls.specs.declared.types.Answer.the-variants.{Ran, Refused}
+use Rattle.calls.specs.declared.running.Task.{Task}
+use Rattle.calls.specs.declared.running.Task.the-variants.{Idle, Crowded, Upto}
 use Rattle.calls.specs.declared.types.Session.{Session}
 use Rattle.calls.specs.declared.types.Reply.{Reply}
 use Rattle.calls.specs.declared.refusals.Verdict.{Verdict}
@@ -26,6 +37,23 @@ world t a b probe = record { session = t; a = a; b = b; probe = probe }
 -- what a call hands back, with the sheets and the output as it leaves them
 abbrev pub leaves : Reply → List ℕ → List ℕ → List ℕ → List ℕ → After
 leaves r a b probe o = after (r .answer) (world (r .session) a b probe) o
+
+-- what number 1 has seen to
+pub record Sizes (p m n a b probe : ℕ) : Type 0 where
+  pub parts : (1 ≤ p) × (p ≤ 16)
+  pub slots : (1 ≤ m) × (m ≤ 1024)
+  pub limit : (1 ≤ n) × (n ≤ 4096)
+  pub a-long : rowsNeed n ≤ a
+  pub b-long : rowsNeed n ≤ b
+  pub probe-long : probeNeed p ≤ probe
+
+pub record Fits (t : Session) (a b probe : ℕ) : Type 0 where
+  pub sizes : Sizes (t .parts) (t .slots) (t .limit) a b probe
+  pub a-few : t .a .rows ≤ t .limit
+  pub b-few : t .b .rows ≤ t .limit
+  pub clock : t .clock ≤ 16384
+  pub next : t .next ≤ t .a .rows * t .b .rows
+  pub short : (k : ℕ) → k < 2 * t .parts → getD (t .counts) k 0 ≤ 32
 
 -- what they ask of the rows: a record that passed number 1, and row sheets of these lengths
 pub record Rows (t : Session) (a b : ℕ) : Type 0 where
@@ -64,3 +92,24 @@ pub record Space (t : Session) (s : Source) (a b : ℕ) : Type 0 where
   pub rows : Rows t a b
   pub clock : t .clock ≤ 16384
   pub space : rowsNeed (pick s (t .a) (t .b) .rows + 1) ≤ pick s a b
+
+-- ---- a run, seen from its source: own is the sheet of the source, facing that of the other
+
+abbrev pub worldFrom : Source → Session → List ℕ → List ℕ → List ℕ → World
+worldFrom s t own facing probe = world t (pick s own facing) (pick s facing own) probe
+
+-- its job for crates/sheets
+abbrev pub jobFrom : Source → Session → Scope → Job
+jobFrom s t scope = record { source = s; rows = pick s (t .a) (t .b) .rows; others = pick (other s) (t .a) (t .b) .rows; parts = t .parts; scope = scope }
+
+-- what a run has to do: nothing, too much for its list, or the rows up to a DTS
+abbrev pub taskOf : World → Source → ℕ → Task
+taskOf w s q =
+    cond (idle w s q) Idle
+    (cond (leb 32 (length (sideOf w s .list q))) Crowded (Upto (latest (w .session .parts) q (rowsOf w s) (countOf w s))))
+
+-- a run that has something to do: refused for want of room, or done
+abbrev pub ranUpto : Source → ℕ → ℕ → World → List ℕ → After
+ranUpto s q last w o = let n = length (ran s q w) in
+    cond (ltb (roomOf (length o)) n) (after (Refused (RoomShort n)) w o)
+    (after (Ran n) (note s q last w) (putFrom 0 (told s (seenFrom s w) (ran s q w)) o))

@@ -18,6 +18,7 @@ use Rattle.sheets.specs.Layout.{Told, pairsNeed, putPair}
 use Rattle.sheets.specs.Pairs.{Table, Pair, across, down, every, position, wanted, wantedPairs, tell, told, putFrom, NextIs, leftRows, leftFrom, SpotIs, past, Writes}
 use Rattle.sheets.specs.declared.pairs.Scope.{Scope}
 use Rattle.sheets.specs.declared.pairs.Written.{Written}
+use Rattle.sheets.proofs.Laws.{product-few}
 use Rattle.sheets.proofs.PairTurns.{Handing, handing-first, handing-next, handing-room, handing-end}
 
 down-left : (i k m : ℕ) → down i k m ≡ leftRows m i 0 k
@@ -43,9 +44,6 @@ length-down i (suc n) m = rw (length-append, length-across i 0 m, length-down (s
 length-left : (m i j k : ℕ) → length (leftRows m i j k) ≤ k * m
 length-left m i j zero = omega arith
 length-left m i j (suc k) = rw (length-append, length-across i j (m - j), length-down (suc i) k m, suc-mul) (omega arith)
-
-pub product-few : (n m : ℕ) → n ≤ 4096 → m ≤ 4096 → n * m ≤ 16777216
-product-few n m h b = le-trans (mul-le-mul-left n b) (mul-le-mul-right 4096 h)
 
 module _ (scope : Scope) (t : Table) where
   -- the pair at a spot

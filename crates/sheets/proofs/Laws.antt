@@ -3,13 +3,14 @@
 use mathlib.Core.Path.{_≡_, refl, sym, ap, ap₂, _∙_, fun-ext}
 use mathlib.Core.Bool.{Bool, true, false, cond, not, _&&_, and-true, and-false, true≢false}
 use mathlib.Core.List.{List, [], _∷_, _++_}
-use Prim.Native.Nat.{ℕ, zero, suc, _+_, _≤_, _<_, max}
-use native.Mathlib.Nat.{add-zero, zero-add}
+use Prim.Native.Nat.{ℕ, zero, suc, _+_, _*_, _≤_, _<_, max}
+use native.Mathlib.Nat.{add-zero, zero-add, le-trans, mul-le-mul-left, mul-le-mul-right}
 use native.Mathlib.Omega.{arith}
 use lib.Dec.{ltb, leb, eqb, leb·zero}
 use lib.ListN.{length, getD, length-append}
 use borrow.Author.Tests.{lt-ltb, eqb-true, eq-eqb, ne-eqb}
 use Rattle.stamps.specs.declared.Source.{Source}
+use Rattle.stamps.specs.declared.Source.the-variants.{A, B}
 use Rattle.stamps.specs.declared.Item.{Item}
 use Rattle.stamps.specs.declared.Row.{Row}
 use Rattle.stamps.specs.declared.Entry.{Entry}
@@ -19,9 +20,10 @@ use Rattle.stamps.specs.Keys.{itemsMatch, partOf}
 use Rattle.stamps.specs.Keys.Laws.{match-part}
 use Rattle.stamps.specs.Stamps.{inMemory}
 use Rattle.stamps.specs.Stamps.Laws.{stamp}
-use Rattle.sheets.specs.Layout.{rowsNeed, rowAt, putRow, listNeed, entryAt, putEntry, Told, pairsNeed, pairAt, putPair}
+use Rattle.sheets.specs.Layout.{rowsNeed, rowAt, putRow, probeNeed, listNo, listNeed, entryAt, putEntry, Told, pairsNeed, pairAt, putPair}
 use Rattle.sheets.specs.Layout.Laws.{length-putRow, row-same, row-other, row-beyond, entry-same, entry-other, length-putPair, pair-same, pair-other, pair-beyond}
-use Rattle.sheets.specs.Lists.{entries, probedAt}
+use Rattle.sheets.specs.Lists.{entries, listOf, probedAt}
+use Rattle.sheets.specs.declared.lists.ProbeList.{ProbeList}
 use Rattle.sheets.specs.Pairs.{Pair, Table, across, position, met, arrivalPairs, tellAll, putFrom, pairsAt, wantedPairs, pairsFrom}
 use Rattle.sheets.specs.declared.pairs.Scope.{Scope}
 use Rattle.sheets.specs.Rows.{hot, spooled, memoryRows, portionRows, latest, flushed, lay}
@@ -80,6 +82,25 @@ unfolding entries
 length-entries probe k zero = refl
 length-entries probe k (suc n) = length-append (entries probe k n) (entryAt probe k n ∷ []) ∙ omega (arith, length-entries probe k n)
 
+-- the list of a portion, and its length
+pub list-entries : (parts : ℕ) (counts probe : List ℕ) (s : Source) (q : ℕ) → q < parts
+    → listOf parts counts probe s q ≡ entries probe (listNo parts s q) (getD counts (listNo parts s q) 0)
+unfolding listOf
+list-entries parts counts probe s q h = rw (lt-ltb q parts h)
+
+pub length-list : (parts : ℕ) (counts probe : List ℕ) (s : Source) (q : ℕ) → q < parts → length (listOf parts counts probe s q) ≡ getD counts (listNo parts s q) 0
+length-list parts counts probe s q h = ap length (list-entries parts counts probe s q h) ∙ length-entries probe (listNo parts s q) (getD counts (listNo parts s q) 0)
+
+-- the entries that it is said to have stand in the probe sheet
+pub list-small : (parts : ℕ) (s : Source) (q : ℕ) → q < parts → listNo parts s q < 2 * parts
+list-small parts A q h = omega arith
+list-small parts B q h = omega arith
+
+pub list-fits : (parts : ℕ) (counts probe : List ℕ) (s : Source) (q : ℕ) (l : ProbeList) → probeNeed parts ≤ length probe
+    → ((k : ℕ) → k < 2 * parts → getD counts k 0 ≤ 32) → q < parts → l ≡ record { number = listNo parts s q; size = getD counts (listNo parts s q) 0 }
+    → listNeed (l .number) (l .size) ≤ length probe
+list-fits parts counts probe s q l h short b e = rw e (omega (arith, list-small parts s q b, short (listNo parts s q) (list-small parts s q b)))
+
 -- one entry more in list k, which had n: the other lists, and the entries before it, stay
 pub entries-other : (probe : List ℕ) (k n : ℕ) (x : Entry) (k′ m : ℕ) → (k′ ≡ k → m ≤ n) → n < 32 → m ≤ 32 → entries (putEntry k n x probe) k′ m ≡ entries probe k′ m
 unfolding entries
@@ -121,6 +142,10 @@ read-put w (x ∷ xs) o h = ap₂ (λ (y : Told) (ys : List Told). y ∷ ys)
 pub length-tellAll : (s : Source) (x y : ℕ → Item) (ps : List Pair) → length (tellAll s x y ps) ≡ length ps
 length-tellAll s x y [] = refl
 length-tellAll s x y (p ∷ ps) = ap suc (length-tellAll s x y ps)
+
+-- as many pairs as rows by rows
+pub product-few : (n m : ℕ) → n ≤ 4096 → m ≤ 4096 → n * m ≤ 16777216
+product-few n m h b = le-trans (mul-le-mul-left n b) (mul-le-mul-right 4096 h)
 
 -- ---- the counts that are answered are the lengths of the lists
 

@@ -205,12 +205,3 @@ module _ (job : Job) (own facing probe counts : List ℕ) (i : ℕ) where
       same k m = ap₂ (λ (ex ey : List Entry). meets (job .scope) (rowAt facing k) && not (doneBefore ex ey (rowAt own i) (rowAt facing k)))
           (list-is (job .source) _ q mine (sym d) b em)
           (list-is (other (job .source)) _ q theirs (sym (match-part (job .parts) (rowAt own i .item) (rowAt facing k .item) m) ∙ sym d) b et)
-
--- the entries that a list is said to have stand in the probe sheet
-pub list-fits : (job : Job) (own facing probe counts : List ℕ) (s : Source) (q : ℕ) (l : ProbeList) → Ready job own facing probe counts → q < job .parts
-    → l ≡ record { number = listNo (job .parts) s q; size = getD counts (listNo (job .parts) s q) 0 } → listNeed (l .number) (l .size) ≤ length probe
-list-fits job own facing probe counts s q l r b e = rw e (omega (arith, r .probe-long, list-small s, r .short (listNo (job .parts) s q) (list-small s)))
-  where
-    list-small : (s : Source) → listNo (job .parts) s q < 2 * job .parts
-    list-small A = omega arith
-    list-small B = omega arith

@@ -3,7 +3,8 @@
 use borrow.Author.Needs.{needs}
 use mathlib.Core.Path.{sym, ap, _∙_}
 use native.Mathlib.Omega.{arith}
-use Rattle.sheets.proofs.PairTurns.{next-left-out, next-taken, list-fits}
+use Rattle.sheets.proofs.PairTurns.{next-left-out, next-taken}
+use Rattle.sheets.proofs.Laws.{list-fits}
 use Rattle.sheets.proofs.pairs.next_facing.Statement.{statement}
 use Rattle.sheets.proofs.pairs.next_facing.Tie as tie
 
@@ -26,7 +27,7 @@ list-of-requires-2 : tie.Need-list-of-requires-2
 list-of-requires-2 c κs = search needs
 
 next-in-row-requires : tie.Need-next-in-row-requires
-next-in-row-requires c κs = (c .before .before .before .before .before .before .before .before .before .before .pre .0 .facing-long, c .before .before .before .before .before .before .before .before .before .before .pre .2, list-fits _ _ _ _ _ (c .before .before .before .before .before .before .before .before .before .before .args .job .source) _ _ (c .before .before .before .before .before .before .before .before .before .before .pre .0) (c .before .before .before .part-of .ensures .1) (c .before .before .list-of .ensures), list-fits _ _ _ _ _ (c .before .other-source .result) _ _ (c .before .before .before .before .before .before .before .before .before .before .pre .0) (c .before .before .before .part-of .ensures .1) (c .list-of2 .ensures))
+next-in-row-requires c κs = (c .before .before .before .before .before .before .before .before .before .before .pre .0 .facing-long, c .before .before .before .before .before .before .before .before .before .before .pre .2, list-fits _ (c .before .before .before .before .before .before .before .before .before .before .args .counts .now) (c .before .before .before .before .before .before .before .before .before .before .args .probe .now) (c .before .before .before .before .before .before .before .before .before .before .args .job .source) _ _ (c .before .before .before .before .before .before .before .before .before .before .pre .0 .probe-long) (c .before .before .before .before .before .before .before .before .before .before .pre .0 .short) (c .before .before .before .part-of .ensures .1) (c .before .before .list-of .ensures), list-fits _ (c .before .before .before .before .before .before .before .before .before .before .args .counts .now) (c .before .before .before .before .before .before .before .before .before .before .args .probe .now) (c .before .other-source .result) _ _ (c .before .before .before .before .before .before .before .before .before .before .pre .0 .probe-long) (c .before .before .before .before .before .before .before .before .before .before .pre .0 .short) (c .before .before .before .part-of .ensures .1) (c .list-of2 .ensures))
 
 returns : tie.Need-returns
 returns c = next-taken _ _ _ _ _ _ (c .before .before .before .before .part-of .result) _ _ (c .before .before .before .list-of .result) (c .before .list-of2 .result) (rw (← c .before .before .before .before .before .before .before .row-at .ensures) (sym (c .before .before .before .before .before .before .takes-row .ensures) ∙ c .before .before .before .before .before .if1 .taken)) (rw (← c .before .before .before .before .before .before .before .row-at .ensures) (c .before .before .before .before .part-of .ensures .0)) (c .before .before .before .before .part-of .ensures .1) (c .before .before .before .list-of .ensures) (rw (← c .before .before .other-source .ensures) (c .before .list-of2 .ensures)) (rw (← c .before .before .before .before .before .before .before .row-at .ensures) (c .next-in-row .ensures))

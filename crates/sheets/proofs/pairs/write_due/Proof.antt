@@ -4,7 +4,8 @@ use borrow.Author.Needs.{needs}
 use Prim.Native.Nat.{_-_}
 use native.Mathlib.Omega.{arith}
 use Rattle.sheets.specs.Pairs.{tableOf, leftFrom}
-use Rattle.sheets.proofs.GridTurns.{product-few, spot-here, Writing, writing-first, writing-room, writing-next, writing-full, writing-end}
+use Rattle.sheets.proofs.Laws.{product-few}
+use Rattle.sheets.proofs.GridTurns.{spot-here, Writing, writing-first, writing-room, writing-next, writing-full, writing-end}
 use Rattle.sheets.proofs.pairs.write_due.Statement.{statement}
 use Rattle.sheets.proofs.pairs.write_due.Tie as tie
 
