@@ -10,7 +10,7 @@ use Rattle.stamps.specs.declared.Source.the-variants.{A, B}
 use Rattle.stamps.specs.declared.Item.{Item}
 use Rattle.stamps.specs.declared.Row.{Row}
 use Rattle.stamps.specs.Sources.{other}
-use Rattle.sheets.specs.Layout.{rowsNeed, probeNeed, roomOf, rowAt}
+use Rattle.sheets.specs.Layout.{rowsNeed, probeNeed, roomOf, rowAt, listNo}
 use Rattle.sheets.specs.Pairs.{told, putFrom}
 use Rattle.sheets.specs.declared.pairs.Job.{Job}
 use Rattle.sheets.specs.declared.pairs.Scope.{Scope}
@@ -113,3 +113,10 @@ abbrev pub ranUpto : Source → ℕ → ℕ → World → List ℕ → After
 ranUpto s q last w o = let n = length (ran s q w) in
     cond (ltb (roomOf (length o)) n) (after (Refused (RoomShort n)) w o)
     (after (Ran n) (note s q last w) (putFrom 0 (told s (seenFrom s w) (ran s q w)) o))
+
+-- a list that has a place for one more entry
+pub record Listed (t : Session) (s : Source) (q probe : ℕ) : Type 0 where
+  pub in-parts : q < t .parts
+  pub few-parts : t .parts ≤ 16
+  pub size : getD (t .counts) (listNo (t .parts) s q) 0 < 32
+  pub probe-long : probeNeed (t .parts) ≤ probe

@@ -18,13 +18,13 @@ use sheets::rows::latest_dts;
 use stamps::Entry;
 use stamps::Source;
 ghost use mathlib.Core.Path.{_≡_};
-ghost use Prim.Native.Nat.{_<_};
-ghost use lib.ListN.{length, getD};
-ghost use Rattle.sheets.specs.Layout.{listNo};
+ghost use mathlib.Core.List.{List};
+ghost use Prim.Native.Nat.{ℕ, _<_};
+ghost use lib.ListN.{length};
 ghost use Rattle.calls.specs.declared.types.Call.the-variants.{Run};
 ghost use Rattle.calls.specs.Calls.{after, afterCall};
-ghost use Rattle.calls.specs.Work.{world, leaves, worldFrom, taskOf, ranUpto, Fits};
-ghost use Rattle.calls.specs.World.{pick};
+ghost use Rattle.calls.specs.Work.{world, leaves, worldFrom, taskOf, ranUpto, Fits, Listed};
+ghost use Rattle.calls.specs.World.{pick, note};
 
 // What a run has to do: nothing, too much for its list, or the spooled rows up to a DTS.
 pub enum Task {
@@ -59,4 +59,62 @@ fn find_task(
         return Task::Crowded;
     }
     Task::Upto(last)
+}
+
+// Adds an entry to the portion's list, and counts it.
+fn add_entry(session: Session, source: Source, part: u32, last: u32, probe: &mut [u32]) -> Session
+    requires { ⌜ Listed session source part (length (now probe)) ⌝ }
+    ensures { λ r. ⌜ ((a b : List ℕ) → world r a b (now (probe .exit)) ≡ note source part last (world session a b (now (probe .entry)))) ⌝ }
+{
+    let mut counts = session.counts;
+    let list = list_of(&counts, session.parts, source, part);
+    let number = list.number;
+    let entry = Entry {
+        last,
+        probe: session.clock,
+    };
+    put_entry(probe, number, list.size, entry);
+    counts[number] += 1;
+    let mut t = session;
+    t.counts = counts;
+    t
+}
+
+// A run that has something to do.
+fn run_upto(
+    session: Session,
+    source: Source,
+    part: u32,
+    last: u32,
+    own: &[u32],
+    facing: &[u32],
+    probe: &mut [u32],
+    out: &mut [u32],
+) -> Reply
+    requires { ⌜ Fits session (length (pick source (now own) (now facing))) (length (pick source (now facing) (now own))) (length (now probe)) × Listed session source part (length (now probe)) ⌝ }
+    ensures { λ r. ⌜ after (r .answer) (worldFrom source (r .session) (now (own .entry)) (now (facing .entry)) (now (probe .exit))) (now (out .exit)) ≡ ranUpto source part last (worldFrom source session (now (own .entry)) (now (facing .entry)) (now (probe .entry))) (now (out .entry)) ⌝ }
+{
+    let counts = session.counts;
+    let feed = feed_of(session, source);
+    let across = feed_of(session, stamps::other_source(source));
+    let job = Job {
+        source,
+        rows: feed.rows as usize,
+        others: across.rows as usize,
+        parts: session.parts,
+        scope: Scope::Portion(part),
+    };
+    let n = count_due(job, own, facing, probe, &counts);
+    if room_of(out.len()) < n {
+        return Reply {
+            answer: Answer::Refused(Why::RoomShort(n as u32)),
+            session,
+        };
+    }
+    write_from(job, own, facing, probe, &counts, 0, out, n);
+    let noted = add_entry(session, source, part, last, probe);
+    Reply {
+        answer: Answer::Ran(n as u32),
+        session: noted,
+    }
 }

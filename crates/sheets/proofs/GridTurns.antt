@@ -18,28 +18,12 @@ use Rattle.sheets.specs.Layout.{Told, pairsNeed, putPair}
 use Rattle.sheets.specs.Pairs.{Table, Pair, across, down, every, position, wanted, wantedPairs, tell, told, putFrom, NextIs, leftRows, leftFrom, SpotIs, past, Writes}
 use Rattle.sheets.specs.declared.pairs.Scope.{Scope}
 use Rattle.sheets.specs.declared.pairs.Written.{Written}
-use Rattle.sheets.proofs.Laws.{product-few}
+use Rattle.sheets.proofs.Laws.{length-keep, length-across, length-down, product-few}
 use Rattle.sheets.proofs.PairTurns.{Handing, handing-first, handing-next, handing-room, handing-end}
 
 down-left : (i k m : ℕ) → down i k m ≡ leftRows m i 0 k
 down-left i zero m = refl
 down-left i (suc k) m = rw sub-zero
-
-length-keep : (u : Pair → Bool) (ps : List Pair) → length (keep u ps) ≤ length ps
-length-keep u [] = omega arith
-length-keep u (p ∷ ps) = go (u p) (length-keep u ps)
-  where
-    go : (v : Bool) → length (keep u ps) ≤ length ps → length (cond v (p ∷ keep u ps) (keep u ps)) ≤ suc (length ps)
-    go true h = omega arith
-    go false h = omega arith
-
-length-across : (i j m : ℕ) → length (across i j m) ≡ m
-length-across i j zero = refl
-length-across i j (suc m) = ap suc (length-across i (suc j) m)
-
-length-down : (i n m : ℕ) → length (down i n m) ≡ n * m
-length-down i zero m = omega arith
-length-down i (suc n) m = rw (length-append, length-across i 0 m, length-down (suc i) n m, suc-mul) (omega arith)
 
 length-left : (m i j k : ℕ) → length (leftRows m i j k) ≤ k * m
 length-left m i j zero = omega arith

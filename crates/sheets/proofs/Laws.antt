@@ -4,7 +4,7 @@ use mathlib.Core.Path.{_≡_, refl, sym, ap, ap₂, _∙_, fun-ext}
 use mathlib.Core.Bool.{Bool, true, false, cond, not, _&&_, and-true, and-false, true≢false}
 use mathlib.Core.List.{List, [], _∷_, _++_}
 use Prim.Native.Nat.{ℕ, zero, suc, _+_, _*_, _≤_, _<_, max}
-use native.Mathlib.Nat.{add-zero, zero-add, le-trans, mul-le-mul-left, mul-le-mul-right}
+use native.Mathlib.Nat.{add-zero, zero-add, suc-mul, le-trans, mul-le-mul-left, mul-le-mul-right}
 use native.Mathlib.Omega.{arith}
 use lib.Dec.{ltb, leb, eqb, leb·zero}
 use lib.ListN.{length, getD, length-append}
@@ -24,7 +24,7 @@ use Rattle.sheets.specs.Layout.{rowsNeed, rowAt, putRow, probeNeed, list
 use Rattle.sheets.specs.Layout.Laws.{length-putRow, row-same, row-other, row-beyond, entry-same, entry-other, length-putPair, pair-same, pair-other, pair-beyond}
 use Rattle.sheets.specs.Lists.{entries, listOf, probedAt}
 use Rattle.sheets.specs.declared.lists.ProbeList.{ProbeList}
-use Rattle.sheets.specs.Pairs.{Pair, Table, across, position, met, arrivalPairs, tellAll, putFrom, pairsAt, wantedPairs, pairsFrom}
+use Rattle.sheets.specs.Pairs.{Pair, Table, across, down, every, position, wanted, met, arrivalPairs, tellAll, putFrom, pairsAt, wantedPairs, pairsFrom}
 use Rattle.sheets.specs.declared.pairs.Scope.{Scope}
 use Rattle.sheets.specs.Rows.{hot, spooled, memoryRows, portionRows, latest, flushed, lay}
 
@@ -143,7 +143,27 @@ pub length-tellAll : (s : Source) (x y : ℕ → Item) (ps : List Pair) → leng
 length-tellAll s x y [] = refl
 length-tellAll s x y (p ∷ ps) = ap suc (length-tellAll s x y ps)
 
--- as many pairs as rows by rows
+pub length-keep : (u : Pair → Bool) (ps : List Pair) → length (keep u ps) ≤ length ps
+length-keep u [] = omega arith
+length-keep u (p ∷ ps) = go (u p) (length-keep u ps)
+  where
+    go : (v : Bool) → length (keep u ps) ≤ length ps → length (cond v (p ∷ keep u ps) (keep u ps)) ≤ suc (length ps)
+    go true h = omega arith
+    go false h = omega arith
+
+pub length-across : (i j m : ℕ) → length (across i j m) ≡ m
+length-across i j zero = refl
+length-across i j (suc m) = ap suc (length-across i (suc j) m)
+
+pub length-down : (i n m : ℕ) → length (down i n m) ≡ n * m
+length-down i zero m = omega arith
+length-down i (suc n) m = rw (length-append, length-across i 0 m, length-down (suc i) n m, suc-mul) (omega arith)
+
+-- no more pairs than rows by rows
+pub wanted-few : (scope : Scope) (t : Table) → length (wantedPairs scope t) ≤ t .a .count * t .b .count
+unfolding wantedPairs
+wanted-few scope t = omega (arith, length-keep (wanted scope t) (every t), length-down 0 (t .a .count) (t .b .count))
+
 pub product-few : (n m : ℕ) → n ≤ 4096 → m ≤ 4096 → n * m ≤ 16777216
 product-few n m h b = le-trans (mul-le-mul-left n b) (mul-le-mul-right 4096 h)
 
