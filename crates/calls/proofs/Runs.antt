@@ -9,7 +9,7 @@ use native.Mathlib.Numerals.{add-one}
 use lib.Dec.{ltb, leb, eqb}
 use lib.ListN.{length, getD, take, set}
 use lib.Seq.{take-all}
-use borrow.Author.Tests.{lt-ltb, le-ltb, le-leb, lt-leb, eq-eqb, ne-eqb}
+use borrow.Author.Tests.{lt-ltb, le-ltb, le-leb, lt-leb, leb-false, eq-eqb, ne-eqb}
 use Rattle.stamps.specs.declared.Source.{Source}
 use Rattle.stamps.specs.declared.Source.the-variants.{A, B}
 use Rattle.stamps.specs.declared.Entry.{Entry}
@@ -24,14 +24,20 @@ use Rattle.sheets.specs.declared.pairs.Scope.the-variants.{Portion}
 use Rattle.sheets.specs.declared.pairs.Written.{Written}
 use Rattle.sheets.specs.declared.lists.ProbeList.{ProbeList}
 use Rattle.sheets.proofs.Laws.{latest-none, list-entries, length-list, list-small, wanted-few, product-few, pairs-from-start}
-use Rattle.calls.specs.Calls.{After, after, owed, drains}
-use Rattle.calls.specs.Refusals.{ran}
-use Rattle.calls.specs.Work.{world, Fits, Listed, worldFrom, jobFrom, taskOf, ranUpto}
+use Rattle.calls.specs.Calls.{After, after, runs, owed, drains, effect, settle, afterCall}
+use Rattle.calls.specs.Refusals.{verdict, idle, ran, portionChecks, runChecks, checks}
+use Rattle.calls.specs.Work.{world, Fits, Listed, worldFrom, jobFrom, taskOf, ranUpto, runSettled}
 use Rattle.calls.specs.World.{World, pick, countOf, sheetOf, rowsOf, sideOf, seenFrom, withCounts, withNext, note, move}
 use Rattle.calls.specs.declared.types.Session.{Session}
 use Rattle.calls.specs.declared.types.Answer.{Answer}
 use Rattle.calls.specs.declared.types.Answer.the-variants.{More, Done, Ran, Refused}
-use Rattle.calls.specs.declared.types.Why.the-variants.{RoomShort}
+use Rattle.calls.specs.declared.types.Why.{Why}
+use Rattle.calls.specs.declared.types.Why.the-variants.{ListFull, RoomShort}
+use Rattle.calls.specs.declared.types.Call.the-variants.{Run}
+use Rattle.calls.specs.declared.refusals.Verdict.{Verdict}
+use Rattle.calls.specs.declared.refusals.Verdict.the-variants.{Good, No}
+use Rattle.calls.proofs.Settling.{settle-no, verdict-first, verdict-rest, verdict-good, verdict-no}
+use Rattle.calls.specs.declared.running.Task.{Task}
 use Rattle.calls.specs.declared.running.Task.the-variants.{Idle, Crowded, Upto}
 
 pub pick-own : {X : Type 0} (s : Source) (x y : X) → pick s (pick s x y) (pick s y x) ≡ x
@@ -159,5 +165,85 @@ module _ (s : Source) (t : Session) (own facing probe : List ℕ) (q n : ℕ) wh
       where
         all : putFrom 0 (told s table (take n (pairsFrom (Portion q) 0 table))) o ≡ putFrom 0 (told s table (wantedPairs (Portion q) table)) o
         all = rw (pairs-from-start (Portion q) table, take-all n (wantedPairs (Portion q) table) (omega (arith, count)))
+
         seen : putFrom 0 (told s table (wantedPairs (Portion q) table)) o ≡ putFrom 0 (told s (seenFrom s box) (ran s q box)) o
         seen = ap (λ (x : Table). putFrom 0 (told s x (wantedPairs (Portion q) x)) o) (seen-is s t (Portion q) own facing probe)
+
+-- ---- what a task says of the tests behind it
+
+module _ (u v : Bool) (l : ℕ) where
+  abbrev picked : Task
+  picked = cond u Idle (cond v Crowded (Upto l))
+
+pub idle-is : (u v : Bool) (l : ℕ) → Idle ≡ picked u v l → u ≡ true
+idle-is true v l e = refl
+idle-is false true l e = let z : _≡_ {A = ℕ} 0 1 = cc in absurd (omega arith)
+idle-is false false l e = let z : _≡_ {A = ℕ} 0 1 = cc in absurd (omega arith)
+
+pub crowded-is : (u v : Bool) (l : ℕ) → Crowded ≡ picked u v l → (u ≡ false) × (v ≡ true)
+crowded-is true v l e = let z : _≡_ {A = ℕ} 0 1 = cc in absurd (omega arith)
+crowded-is false true l e = (refl, refl)
+crowded-is false false l e = let z : _≡_ {A = ℕ} 0 1 = cc in absurd (omega arith)
+
+pub upto-is : (u v : Bool) (l x : ℕ) → Upto x ≡ picked u v l → (u ≡ false) × (v ≡ false) × (x ≡ l)
+upto-is true v l x e = let z : _≡_ {A = ℕ} 0 1 = cc in absurd (omega arith)
+upto-is false true l x e = let z : _≡_ {A = ℕ} 0 1 = cc in absurd (omega arith)
+upto-is false false l x e = (refl, refl, (cc))
+
+-- ---- the ways through a run
+
+module _ (w : World) (s : Source) (q : ℕ) (o : List ℕ) where
+  abbrev crowd : Bool
+  crowd = leb 32 (length (sideOf w s .list q))
+
+  abbrev newest : ℕ
+  newest = latest (w .session .parts) q (rowsOf w s) (countOf w s)
+
+  pub run-idle : Idle ≡ taskOf w s q → after (Ran 0) w o ≡ runSettled s q w o
+  unfolding verdict runs
+  run-idle e = rw (idle-is (idle w s q) crowd newest e)
+
+  pub run-crowded : Crowded ≡ taskOf w s q → after (Refused ListFull) w o ≡ runSettled s q w o
+  unfolding verdict
+  run-crowded e = let f = crowded-is (idle w s q) crowd newest e in rw (f .0, f .1)
+
+  module _ (last : ℕ) (e : Upto last ≡ taskOf w s q) where
+    pub upto-room : crowd ≡ false
+    upto-room = upto-is (idle w s q) crowd newest last e .1
+
+    pub run-upto : (x : After) → x ≡ ranUpto s q last w o → x ≡ runSettled s q w o
+    unfolding verdict runs
+    run-upto x h = h ∙ rw (upto-is (idle w s q) crowd newest last e .2, upto-is (idle w s q) crowd newest last e .0, upto-room) (go (ltb (roomOf (length o)) (length (ran s q w))))
+      where
+        go : (u : Bool) → cond u (after (Refused (RoomShort (length (ran s q w)))) w o) (after (Ran (length (ran s q w))) (note s q newest w) (putFrom 0 (told s (seenFrom s w) (ran s q w)) o))
+            ≡ settle (cond u (No (RoomShort (length (ran s q w)))) Good) w o (after (Ran (length (ran s q w))) (note s q newest w) (putFrom 0 (told s (seenFrom s w) (ran s q w)) o))
+        go true = refl
+        go false = refl
+
+-- the list has a place for one more entry
+pub upto-listed : (s : Source) (t : Session) (own facing probe : List ℕ) (q d : ℕ) → Fits t (length (pick s own facing)) (length (pick s facing own)) (length probe) → q < t .parts
+    → Upto d ≡ taskOf (worldFrom s t own facing probe) s q → Listed t s q (length probe)
+upto-listed s t own facing probe q d f h e = record {
+  in-parts = h;
+  few-parts = f .sizes .parts .1;
+  size = rw (length-list (t .parts) (t .counts) probe s q h) at (leb-false 32 (length (listOf (t .parts) (t .counts) probe s q)) (upto-room (worldFrom s t own facing probe) s q [] d e));
+  probe-long = f .sizes .probe-long;
+}
+
+-- ---- a run, settled
+
+module _ (w : World) (o : List ℕ) (s : Source) (q : ℕ) where
+  abbrev portionVerdict : Verdict
+  portionVerdict = verdict (portionChecks (w .session) q (length (w .a)) (length (w .b)) (length (w .probe)))
+
+  pub run-refused : (y : Why) → portionVerdict ≡ No y → after (Refused y) w o ≡ afterCall w o (Run s q)
+  unfolding checks
+  run-refused y e = settle-no w o (Run s q) y (verdict-no (portionChecks (w .session) q (length (w .a)) (length (w .b)) (length (w .probe))) (runChecks w s q (roomOf (length o))) y e)
+
+  pub run-settled : (x : After) → portionVerdict ≡ Good → x ≡ runSettled s q w o → x ≡ afterCall w o (Run s q)
+  unfolding checks afterCall effect
+  run-settled x e h = h ∙ ap (λ (v : Verdict). settle v w o (runs s q w o))
+      (sym (verdict-good (portionChecks (w .session) q (length (w .a)) (length (w .b)) (length (w .probe))) (runChecks w s q (roomOf (length o))) e))
+
+pub portion-small : (t : Session) (q a b probe : ℕ) → verdict (portionChecks t q a b probe) ≡ Good → q < t .parts
+portion-small t q a b probe h = leb-false (t .parts) q (verdict-first _ _ (verdict-rest _ _ h))

@@ -131,13 +131,16 @@ drainChecks t room a b probe =
 abbrev pub roomCheck : ℕ → ℕ → Check
 roomCheck room n = check (ltb room n) (RoomShort n)
 
+-- a run that has something to do: numbers 6 and 8
+abbrev pub runChecks : World → Source → ℕ → ℕ → List Check
+runChecks w s q room = cond (idle w s q) [] (check (leb 32 (length (sideOf w s .list q))) ListFull ∷ roomCheck room (length (ran s q w)) ∷ [])
+
 unfoldable pub checks : World → Call → ℕ → List Check
 checks w (Arrive s m) room =
     rowChecks (w .session) s m (length (w .a)) (length (w .b)) (length (w .probe))
     ++ (roomCheck room (length (arrived s (itemOf m) (makeRoom (roomFor w) w))) ∷ [])
 checks w (Evict s q) room = portionChecks (w .session) q (length (w .a)) (length (w .b)) (length (w .probe))
 checks w (Run s q) room =
-    portionChecks (w .session) q (length (w .a)) (length (w .b)) (length (w .probe))
-    ++ cond (idle w s q) [] (check (leb 32 (length (sideOf w s .list q))) ListFull ∷ roomCheck room (length (ran s q w)) ∷ [])
+    portionChecks (w .session) q (length (w .a)) (length (w .b)) (length (w .probe)) ++ runChecks w s q room
 checks w (Close s) room = closeChecks (w .session) s (length (w .a)) (length (w .b)) (length (w .probe))
 checks w Drain room = drainChecks (w .session) room (length (w .a)) (length (w .b)) (length (w .probe))

@@ -15,9 +15,9 @@ use Rattle.sheets.specs.Pairs.{told, putFrom}
 use Rattle.sheets.specs.declared.pairs.Job.{Job}
 use Rattle.sheets.specs.declared.pairs.Scope.{Scope}
 use Rattle.sheets.specs.Rows.{portionRows, latest, flushed}
-use Rattle.calls.specs.Calls.{After, after}
+use Rattle.calls.specs.Calls.{After, after, runs, settle}
 use Rattle.calls.specs.World.{World, pick, rowsOf, countOf, sideOf, seenFrom, flush, note}
-use Rattle.calls.specs.Refusals.{idle, ran}
+use Rattle.calls.specs.Refusals.{verdict, idle, ran, runChecks}
 use Rattle.calls.specs.declared.types.Why.the-variants.{RoomShort}
 use Rattle.calls.specs.declared.types.Answer.the-variants.{Ran, Refused}
 use Rattle.calls.specs.declared.running.Task.{Task}
@@ -120,3 +120,7 @@ pub record Listed (t : Session) (s : Source) (q probe : ℕ) : Type 0 where
   pub few-parts : t .parts ≤ 16
   pub size : getD (t .counts) (listNo (t .parts) s q) 0 < 32
   pub probe-long : probeNeed (t .parts) ≤ probe
+
+-- a run whose portion's numbers are good, settled by the checks that are left
+abbrev pub runSettled : Source → ℕ → World → List ℕ → After
+runSettled s q w o = settle (verdict (runChecks w s q (roomOf (length o)))) w o (runs s q w o)

@@ -23,7 +23,7 @@ ghost use Prim.Native.Nat.{ℕ, _<_};
 ghost use lib.ListN.{length};
 ghost use Rattle.calls.specs.declared.types.Call.the-variants.{Run};
 ghost use Rattle.calls.specs.Calls.{after, afterCall};
-ghost use Rattle.calls.specs.Work.{world, leaves, worldFrom, taskOf, ranUpto, Fits, Listed};
+ghost use Rattle.calls.specs.Work.{world, leaves, worldFrom, taskOf, ranUpto, runSettled, Fits, Listed};
 ghost use Rattle.calls.specs.World.{pick, note};
 
 // What a run has to do: nothing, too much for its list, or the spooled rows up to a DTS.
@@ -116,5 +116,54 @@ fn run_upto(
     Reply {
         answer: Answer::Ran(n as u32),
         session: noted,
+    }
+}
+
+// A run on a portion whose numbers are good.
+fn run_portion(
+    session: Session,
+    source: Source,
+    part: u32,
+    own: &[u32],
+    facing: &[u32],
+    probe: &mut [u32],
+    out: &mut [u32],
+) -> Reply
+    requires { ⌜ Fits session (length (pick source (now own) (now facing))) (length (pick source (now facing) (now own))) (length (now probe)) × (part < session .parts) ⌝ }
+    ensures { λ r. let w = worldFrom source session (now (own .entry)) (now (facing .entry)) (now (probe .entry)) in ⌜ after (r .answer) (worldFrom source (r .session) (now (own .entry)) (now (facing .entry)) (now (probe .exit))) (now (out .exit)) ≡ runSettled source part w (now (out .entry)) ⌝ }
+{
+    match find_task(session, source, part, own, facing, probe) {
+        Task::Idle => Reply {
+            answer: Answer::Ran(0),
+            session,
+        },
+        Task::Crowded => Reply {
+            answer: Answer::Refused(Why::ListFull),
+            session,
+        },
+        Task::Upto(last) => run_upto(session, source, part, last, own, facing, probe, out),
+    }
+}
+
+pub fn run(
+    session: Session,
+    source: Source,
+    part: u32,
+    a: &[u32],
+    b: &[u32],
+    probe: &mut [u32],
+    out: &mut [u32],
+) -> Reply
+    ensures { λ r. ⌜ leaves r (now (a .entry)) (now (b .entry)) (now (probe .exit)) (now (out .exit)) ≡ afterCall (world session (now (a .entry)) (now (b .entry)) (now (probe .entry))) (now (out .entry)) (Run source part) ⌝ }
+{
+    match check_portion(session, part, a.len(), b.len(), probe.len()) {
+        Verdict::No(why) => Reply {
+            answer: Answer::Refused(why),
+            session,
+        },
+        Verdict::Good => match source {
+            Source::A => run_portion(session, Source::A, part, a, b, probe, out),
+            Source::B => run_portion(session, Source::B, part, b, a, probe, out),
+        },
     }
 }
