@@ -5,6 +5,7 @@ pub mod draining;
 pub mod evicting;
 pub mod feeds;
 pub mod opening;
+pub mod performing;
 pub mod refusals;
 pub mod running;
 pub mod types;

@@ -1,0 +1,31 @@
+// Any call, given as one value.
+use crate::arriving::arrive;
+use crate::closing::close;
+use crate::draining::drain;
+use crate::evicting::evict;
+use crate::running::run;
+use crate::types::Call;
+use crate::types::Reply;
+use crate::types::Session;
+ghost use mathlib.Core.Path.{_≡_};
+ghost use Rattle.calls.specs.Calls.{afterCall};
+ghost use Rattle.calls.specs.Work.{world, leaves};
+
+pub fn perform(
+    session: Session,
+    call: Call,
+    a: &mut [u32],
+    b: &mut [u32],
+    probe: &mut [u32],
+    out: &mut [u32],
+) -> Reply
+    ensures { λ r. ⌜ leaves r (now (a .exit)) (now (b .exit)) (now (probe .exit)) (now (out .exit)) ≡ afterCall (world session (now (a .entry)) (now (b .entry)) (now (probe .entry))) (now (out .entry)) call ⌝ }
+{
+    match call {
+        Call::Arrive(source, message) => arrive(session, source, message, a, b, probe, out),
+        Call::Evict(source, part) => evict(session, source, part, a, b, probe),
+        Call::Run(source, part) => run(session, source, part, a, b, probe, out),
+        Call::Close(source) => close(session, source, a, b, probe),
+        Call::Drain => drain(session, a, b, probe, out),
+    }
+}
