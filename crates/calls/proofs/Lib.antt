@@ -1,4 +1,5 @@
 mod Arrivals
 mod Checks
+pub mod Laws
 mod Runs
 mod Settling

@@ -1,0 +1,106 @@
+-- What every call's promise says: it allows one result, a refusal changes nothing, and nothing runs out of its words.
+-- By cases on the verdict and on the call. Assumes nothing.
+use mathlib.Core.Path.{_≡_, refl, sym, ap, _∙_}
+use mathlib.Core.Bool.{Bool, true, false, cond}
+use mathlib.Core.List.{List, [], _∷_}
+use Prim.Native.Nat.{ℕ, suc, _+_, _≤_}
+use native.Mathlib.Omega.{arith}
+use lib.Dec.{ltb}
+use lib.ListN.{length, take}
+use Rattle.stamps.specs.declared.Source.{Source}
+use Rattle.stamps.specs.declared.Source.the-variants.{A, B}
+use Rattle.stamps.specs.declared.Item.{Item}
+use Rattle.stamps.specs.Counting.Laws.{tally-le}
+use Rattle.stamps.specs.Keys.{itemOf}
+use Rattle.sheets.specs.Layout.{roomOf}
+use Rattle.sheets.specs.Rows.{hot, latest}
+use Rattle.sheets.specs.Pairs.{told, putFrom}
+use Rattle.calls.specs.Calls.{After, after, joins, arrives, evicts, runs, owed, drains, effect, settle, afterCall}
+use Rattle.calls.specs.Refusals.{verdict, roomFor, makeRoom, idle, ran, checks}
+use Rattle.calls.specs.Work.{leaves, world}
+use Rattle.calls.specs.World.{World, countOf, rowsOf, seenFrom, flush, store, note, shut, move}
+use Rattle.calls.specs.declared.types.Call.{Call}
+use Rattle.calls.specs.declared.types.Call.the-variants.{Arrive, Evict, Run, Close, Drain}
+use Rattle.calls.specs.declared.types.Why.{Why}
+use Rattle.calls.specs.declared.types.Answer.{Answer}
+use Rattle.calls.specs.declared.types.Answer.the-variants.{Taken, Flushed, Ran, Shut, More, Done, Refused}
+use Rattle.calls.specs.declared.types.Reply.{Reply}
+use Rattle.calls.specs.declared.refusals.Verdict.{Verdict}
+use Rattle.calls.specs.declared.refusals.Verdict.the-variants.{Good, No}
+use Rattle.calls.specs.declared.arriving.Room.{Room}
+use Rattle.calls.specs.declared.arriving.Room.the-variants.{Enough, Flush}
+
+-- ---- any two results that a promise allows for one input are equal
+
+pub one-result : (x : After) (r r′ : Reply) (a a′ b b′ probe probe′ o o′ : List ℕ) → leaves r a b probe o ≡ x → leaves r′ a′ b′ probe′ o′ ≡ x
+    → (r ≡ r′) × (a ≡ a′) × (b ≡ b′) × (probe ≡ probe′) × (o ≡ o′)
+one-result x r r′ a a′ b b′ probe probe′ o o′ e f = let g : leaves r a b probe o ≡ leaves r′ a′ b′ probe′ o′ = e ∙ sym f in (
+  λ i. record { answer = g i .answer; session = g i .world .session },
+  ap (λ (y : After). y .world .a) g,
+  ap (λ (y : After). y .world .b) g,
+  ap (λ (y : After). y .world .probe) g,
+  ap (λ (y : After). y .out) g,
+)
+
+-- ---- a refusal hands back the same session and leaves every word
+
+accepts : (w : World) (o : List ℕ) (c : Call) (y : Why) → effect w o c .answer ≡ Refused y → ⊥
+unfolding effect arrives joins evicts runs drains
+accepts w o (Arrive s m) y e = let z : _≡_ {A = ℕ} 0 1 = cc in omega arith
+accepts w o (Evict s q) y e = let z : _≡_ {A = ℕ} 0 1 = cc in omega arith
+accepts w o (Run s q) y e = go (idle w s q) e
+  where
+    go : (u : Bool) → (cond u (after (Ran 0) w o) (after (Ran (length (ran s q w))) (note s q (latest (w .session .parts) q (rowsOf w s) (countOf w s)) w) (putFrom 0 (told s (seenFrom s w) (ran s q w)) o))) .answer ≡ Refused y → ⊥
+    go true e = let z : _≡_ {A = ℕ} 0 1 = cc in omega arith
+    go false e = let z : _≡_ {A = ℕ} 0 1 = cc in omega arith
+accepts w o (Close s) y e = let z : _≡_ {A = ℕ} 0 1 = cc in omega arith
+accepts w o Drain y e = go (ltb (roomOf (length o)) (length (owed w))) e
+  where
+    go : (u : Bool) → cond u More Done (length (take (roomOf (length o)) (owed w))) ≡ Refused y → ⊥
+    go true e = let z : _≡_ {A = ℕ} 0 1 = cc in omega arith
+    go false e = let z : _≡_ {A = ℕ} 0 1 = cc in omega arith
+
+pub refusal-leaves : (w : World) (o : List ℕ) (c : Call) (y : Why) → afterCall w o c .answer ≡ Refused y → (afterCall w o c .world ≡ w) × (afterCall w o c .out ≡ o)
+unfolding afterCall
+refusal-leaves w o c y = go (verdict (checks w c (roomOf (length o))))
+  where
+    go : (v : Verdict) → settle v w o (effect w o c) .answer ≡ Refused y → (settle v w o (effect w o c) .world ≡ w) × (settle v w o (effect w o c) .out ≡ o)
+    go Good e = absurd (accepts w o c y e)
+    go (No z) e = (refl, refl)
+
+-- ---- the clock goes up by at most one a row, and one more for a new one
+
+flush-clock : (s : Source) (q : ℕ) (w : World) → countOf w s ≤ 4096 → flush s q w .session .clock ≤ w .session .clock + 4096
+unfolding flush
+flush-clock A q w h = omega (arith, tally-le (λ i. hot (w .session .parts) q (rowsOf w A i)) (countOf w A))
+flush-clock B q w h = omega (arith, tally-le (λ i. hot (w .session .parts) q (rowsOf w B i)) (countOf w B))
+
+room-clock : (room : Room) (w : World) → ((s : Source) → countOf w s ≤ 4096) → makeRoom room w .session .clock ≤ w .session .clock + 4096
+room-clock Enough w h = omega arith
+room-clock (Flush s q) w h = flush-clock s q w (h s)
+
+store-clock : (s : Source) (item : Item) (w : World) → store s item w .session .clock ≡ suc (w .session .clock)
+unfolding store
+store-clock A item w = refl
+store-clock B item w = refl
+
+effect-clock : (w : World) (o : List ℕ) (c : Call) → ((s : Source) → countOf w s ≤ 4096) → effect w o c .world .session .clock ≤ w .session .clock + 4097
+unfolding effect arrives joins evicts runs drains note shut move
+effect-clock w o (Arrive s m) h = omega (arith, store-clock s (itemOf m) (makeRoom (roomFor w) w), room-clock (roomFor w) w h)
+effect-clock w o (Evict s q) h = omega (arith, flush-clock s q w (h s))
+effect-clock w o (Run s q) h = go (idle w s q)
+  where
+    go : (u : Bool) → (cond u (after (Ran 0) w o) (after (Ran (length (ran s q w))) (note s q (latest (w .session .parts) q (rowsOf w s) (countOf w s)) w) (putFrom 0 (told s (seenFrom s w) (ran s q w)) o))) .world .session .clock ≤ w .session .clock + 4097
+    go true = omega arith
+    go false = omega arith
+effect-clock w o (Close A) h = omega arith
+effect-clock w o (Close B) h = omega arith
+effect-clock w o Drain h = omega arith
+
+pub clock-bound : (w : World) (o : List ℕ) (c : Call) → ((s : Source) → countOf w s ≤ 4096) → afterCall w o c .world .session .clock ≤ w .session .clock + 4097
+unfolding afterCall
+clock-bound w o c h = go (verdict (checks w c (roomOf (length o))))
+  where
+    go : (v : Verdict) → settle v w o (effect w o c) .world .session .clock ≤ w .session .clock + 4097
+    go Good = effect-clock w o c h
+    go (No y) = omega arith
