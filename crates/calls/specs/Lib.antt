@@ -1,4 +1,5 @@
 pub mod Calls
 pub mod Refusals
 pub mod Work
+pub mod Worked
 pub mod World

@@ -15,13 +15,13 @@ pub mod Laws
 abbrev pub rowsNeed : ℕ → ℕ
 rowsNeed n = 3 * n
 
-pub rowAt : List ℕ → ℕ → Row
+unfoldable pub rowAt : List ℕ → ℕ → Row
 rowAt l r = record { item = record { key = getD l (3 * r) 0 }; ats = getD l (3 * r + 1) 0; dts = getD l (3 * r + 2) 0 }
 
 abbrev pub rowWords : Row → List ℕ
 rowWords x = x .item .key ∷ x .ats ∷ x .dts ∷ []
 
-pub putRow : ℕ → Row → List ℕ → List ℕ
+unfoldable pub putRow : ℕ → Row → List ℕ → List ℕ
 putRow r x l = sets l (3 * r) (rowWords x)
 
 -- ---- entries: "Entry e of source s (A is 0, B is 1), partition p, is at word 64(sP + p) + 2e: DTS-last, then ProbeTS"
@@ -38,13 +38,13 @@ abbrev pub listNo : ℕ → Source → ℕ → ℕ
 listNo parts A p = p
 listNo parts B p = parts + p
 
-pub entryAt : List ℕ → ℕ → ℕ → Entry
+unfoldable pub entryAt : List ℕ → ℕ → ℕ → Entry
 entryAt l k e = record { last = getD l (64 * k + 2 * e) 0; probe = getD l (64 * k + 2 * e + 1) 0 }
 
 abbrev pub entryWords : Entry → List ℕ
 entryWords x = x .last ∷ x .probe ∷ []
 
-pub putEntry : ℕ → ℕ → Entry → List ℕ → List ℕ
+unfoldable pub putEntry : ℕ → ℕ → Entry → List ℕ → List ℕ
 putEntry k e x l = sets l (64 * k + 2 * e) (entryWords x)
 
 -- ---- pairs: "A pair is (A row number, B row number, key)", "three words a pair"
@@ -61,11 +61,11 @@ pairsNeed n = 3 * n
 abbrev pub roomOf : ℕ → ℕ
 roomOf words = words / 3
 
-pub pairAt : List ℕ → ℕ → Told
+unfoldable pub pairAt : List ℕ → ℕ → Told
 pairAt o w = record { a = getD o (3 * w) 0; b = getD o (3 * w + 1) 0; key = getD o (3 * w + 2) 0 }
 
 abbrev pub pairWords : Told → List ℕ
 pairWords x = x .a ∷ x .b ∷ x .key ∷ []
 
-pub putPair : ℕ → Told → List ℕ → List ℕ
+unfoldable pub putPair : ℕ → Told → List ℕ → List ℕ
 putPair w x o = sets o (3 * w) (pairWords x)

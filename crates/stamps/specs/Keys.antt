@@ -10,23 +10,23 @@ pub mod Meaning
 pub mod Laws
 
 -- "Key: car x 1000 + lap"
-pub keyOf : ℕ → ℕ → ℕ
+unfoldable pub keyOf : ℕ → ℕ → ℕ
 keyOf car lap = car * 1000 + lap
 
 -- "car 1 to 999, lap 0 to 999"
-pub inRange : Message → Bool
+unfoldable pub inRange : Message → Bool
 inRange m = leb 1 (m .car) && (leb (m .car) 999 && leb (m .lap) 999)
 
 -- what is kept of a message
-pub itemOf : Message → Item
+unfoldable pub itemOf : Message → Item
 itemOf m = record { key = keyOf (m .car) (m .lap) }
 
 -- "Two rows of different sources match when their keys are equal"
-pub itemsMatch : Item → Item → Bool
+unfoldable pub itemsMatch : Item → Item → Bool
 itemsMatch x y = eqb (x .key) (y .key)
 
 -- "Partition of a row: key mod P"
-pub partOf : ℕ → Item → ℕ
+unfoldable pub partOf : ℕ → Item → ℕ
 partOf parts x = x .key % parts
 
 -- refusal 2, BadKey: "car or lap out of range"

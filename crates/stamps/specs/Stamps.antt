@@ -13,26 +13,26 @@ abbrev pub inMemory : Row → Bool
 inMemory r = eqb (r .dts) 0
 
 -- not yet flushed when the clock stood at t: leaving at the very stamp t counts as having left
-pub alive : ℕ → Row → Bool
+unfoldable pub alive : ℕ → Row → Bool
 alive t r = inMemory r || ltb t (r .dts)
 
 -- in memory at a probe: "ATS of b <= ProbeTS and (DTS of b is 0 or ProbeTS < DTS of b)"
-pub presentAt : ℕ → Row → Bool
+unfoldable pub presentAt : ℕ → Row → Bool
 presentAt t r = leb (r .ats) t && alive t r
 
 -- rule 1, in memory together: "(DTS of b is 0, or ATS of a < DTS of b) and (DTS of a is 0, or ATS of b < DTS of a)"
-pub together : Row → Row → Bool
+unfoldable pub together : Row → Row → Bool
 together x y = alive (x .ats) y && alive (y .ats) x
 
 -- rule 2 for one entry: "DTS of a is not 0 .. DTS of a <= DTS-last while b was in memory at ProbeTS". Rule 3 is this with a and b in each other's place
-pub covers : Entry → Row → Row → Bool
+unfoldable pub covers : Entry → Row → Row → Bool
 covers e x y = not (alive (e .last) x) && presentAt (e .probe) y
 
 -- used by a run: an entry of x's list covers x and y
-pub used : List Entry → Row → Row → Bool
+unfoldable pub used : List Entry → Row → Row → Bool
 used [] x y = false
 used (e ∷ es) x y = covers e x y || used es x y
 
 -- done before: rule 1, 2 or 3, for two rows and the lists of their portions
-pub doneBefore : List Entry → List Entry → Row → Row → Bool
+unfoldable pub doneBefore : List Entry → List Entry → Row → Row → Bool
 doneBefore ex ey x y = together x y || (used ex x y || used ey y x)

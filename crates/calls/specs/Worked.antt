@@ -1,0 +1,126 @@
+-- Document 01's worked session, computed from the definitions: answers, pairs, stamps, and the one entry.
+-- Proved by computing it. Assumes nothing.
+use mathlib.Core.Path.{_≡_, refl}
+use mathlib.Core.Bool.{false}
+use mathlib.Core.List.{List, [], _∷_, _++_}
+use Prim.Native.Nat.{ℕ, _+_, _*_}
+use lib.ListN.{replicate}
+use Rattle.stamps.specs.declared.Source.the-variants.{A, B}
+use Rattle.stamps.specs.declared.Message.{Message}
+use Rattle.stamps.specs.declared.Row.{Row}
+use Rattle.stamps.specs.Keys.{keyOf, inRange, itemOf, itemsMatch, partOf}
+use Rattle.stamps.specs.Stamps.{alive, presentAt, together, covers, used, doneBefore}
+use Rattle.sheets.specs.Layout.{rowAt, putRow, entryAt, putEntry, Told, pairAt, putPair}
+use Rattle.sheets.specs.Lists.{entries, listOf, probedAt}
+use Rattle.sheets.specs.Rows.{lay, victim}
+use Rattle.sheets.specs.Pairs.{arrivalPairs, wanted, wantedPairs, pairsFrom, putFrom, pairsAt}
+use Rattle.calls.specs.World.{World, flush, store, note, shut, move}
+use Rattle.calls.specs.Refusals.{verdict, sessionFits, roomFor, checks}
+use Rattle.calls.specs.Calls.{After, fresh, joins, arrives, evicts, runs, drains, effect, afterCall}
+use Rattle.calls.specs.declared.types.Call.{Call}
+use Rattle.calls.specs.declared.types.Call.the-variants.{Arrive, Evict, Run, Close, Drain}
+use Rattle.calls.specs.declared.types.Answer.{Answer}
+use Rattle.calls.specs.declared.types.Answer.the-variants.{Opened, Taken, Flushed, Ran, Shut, More, Done, Refused}
+
+-- the pairs that an answer speaks of
+abbrev pub pairsOf : Answer → ℕ
+pairsOf Opened = 0
+pairsOf (Taken n) = n
+pairsOf (Flushed n) = 0
+pairsOf (Ran n) = n
+pairsOf Shut = 0
+pairsOf (More n) = n
+pairsOf (Done n) = n
+pairsOf (Refused y) = 0
+
+-- the box, what it answered, and what it wrote
+pub record Played : Type 0 where
+  pub world : World
+  pub answers : List Answer
+  pub pairs : List Told
+
+unfoldable pub play : After → Played → Played
+play r p = record { world = r .world; answers = p .answers ++ (r .answer ∷ []); pairs = p .pairs ++ pairsAt (r .out) 0 (pairsOf (r .answer)) }
+
+-- a call with room for n pairs
+unfoldable pub ask : ℕ → Call → Played → Played
+ask n c p = play (afterCall (p .world) (replicate (3 * n) 0) c) p
+
+abbrev pub passing : ℕ → Message
+passing lap = record { car = 7; lap = lap }
+
+-- START,2,3,8 on sheets of zeros
+unfoldable pub started : Played
+started = record { world = record { session = fresh 2 3 8; a = replicate 24 0; b = replicate 24 0; probe = replicate 256 0 }; answers = []; pairs = [] }
+
+-- a pair of these rows, and a row with these stamps: all are of car 7
+abbrev pub told : ℕ → ℕ → ℕ → Told
+told a b lap = record { a = a; b = b; key = 7000 + lap }
+
+abbrev pub row : ℕ → ℕ → ℕ → Row
+row lap ats dts = record { item = record { key = 7000 + lap }; ats = ats; dts = dts }
+
+-- A,7,12 / B,7,12 / A,7,13 / B,7,13 / B,7,12: the first call stands innermost
+unfoldable pub fed : Played
+fed =
+    ask 4 (Arrive B (passing 12))
+    (ask 4 (Arrive B (passing 13)) (ask 4 (Arrive A (passing 13)) (ask 4 (Arrive B (passing 12)) (ask 4 (Arrive A (passing 12)) started))))
+
+-- the rest: RUN,A,0 twice, EVICT,B,0, A,7,12; and CLOSE,A, CLOSE,B, DRAIN,1 twice
+unfoldable pub run : Played → Played
+run p = ask 4 (Arrive A (passing 12)) (ask 4 (Evict B 0) (ask 4 (Run A 0) (ask 4 (Run A 0) p)))
+
+unfoldable pub drained : Played → Played
+drained p = ask 1 Drain (ask 1 Drain (ask 4 (Close B) (ask 4 (Close A) p)))
+
+-- a session on the way, with the stamps of its rows
+abbrev pub stage : ℕ → List ℕ → List ℕ → List ℕ → List ℕ → ℕ → List Answer → List Told → Played
+stage clock a b counts entry rowsA answers pairs = record {
+  world = record {
+    session = record {
+      parts = 2;
+      slots = 3;
+      limit = 8;
+      clock = clock;
+      a = record { rows = rowsA; closed = false };
+      b = record { rows = 3; closed = false };
+      counts = counts;
+      next = 0;
+    };
+    a = a ++ replicate 15 0;
+    b = b ++ replicate 15 0;
+    probe = entry ++ replicate 254 0;
+  };
+  answers = answers;
+  pairs = pairs;
+}
+
+abbrev pub fedStage : Played
+fedStage =
+    stage 7 (7012 ∷ 1 ∷ 4 ∷ 7013 ∷ 3 ∷ 6 ∷ 0 ∷ 0 ∷ 0 ∷ []) (7012 ∷ 2 ∷ 0 ∷ 7013 ∷ 5 ∷ 0 ∷ 7012 ∷ 7 ∷ 0 ∷ []) (replicate 32 0) (0 ∷ 0 ∷ []) 2
+    (Taken 0 ∷ Taken 1 ∷ Taken 0 ∷ Taken 1 ∷ Taken 0 ∷ []) (told 0 0 12 ∷ told 1 1 13 ∷ [])
+
+abbrev pub runStage : Played
+runStage =
+    stage 10 (7012 ∷ 1 ∷ 4 ∷ 7013 ∷ 3 ∷ 6 ∷ 7012 ∷ 10 ∷ 0 ∷ []) (7012 ∷ 2 ∷ 8 ∷ 7013 ∷ 5 ∷ 0 ∷ 7012 ∷ 7 ∷ 9 ∷ []) (1 ∷ replicate 31 0) (4 ∷ 7 ∷ []) 3
+    (Taken 0 ∷ Taken 1 ∷ Taken 0 ∷ Taken 1 ∷ Taken 0 ∷ Ran 1 ∷ Ran 0 ∷ Flushed 2 ∷ Taken 0 ∷ []) (told 0 0 12 ∷ told 1 1 13 ∷ told 0 2 12 ∷ [])
+
+fed-is : fed ≡ fedStage
+unfolding fed started keyOf inRange itemOf itemsMatch partOf alive presentAt together covers used doneBefore rowAt putRow entryAt putEntry pairAt putPair entries listOf probedAt lay victim arrivalPairs wanted wantedPairs pairsFrom putFrom flush store note shut move verdict sessionFits roomFor checks joins arrives evicts runs drains effect afterCall ask play
+fed-is = refl
+
+run-is : run fedStage ≡ runStage
+unfolding run keyOf inRange itemOf itemsMatch partOf alive presentAt together covers used doneBefore rowAt putRow entryAt putEntry pairAt putPair entries listOf probedAt lay victim arrivalPairs wanted wantedPairs pairsFrom putFrom flush store note shut move verdict sessionFits roomFor checks joins arrives evicts runs drains effect afterCall ask play
+run-is = refl
+
+drained-answers : drained runStage .answers ≡ runStage .answers ++ (Shut ∷ Shut ∷ More 1 ∷ Done 1 ∷ [])
+unfolding drained keyOf inRange itemOf itemsMatch partOf alive presentAt together covers used doneBefore rowAt putRow entryAt putEntry pairAt putPair entries listOf probedAt lay victim arrivalPairs wanted wantedPairs pairsFrom putFrom flush store note shut move verdict sessionFits roomFor checks joins arrives evicts runs drains effect afterCall ask play
+drained-answers = refl
+
+drained-pairs : drained runStage .pairs ≡ runStage .pairs ++ (told 2 0 12 ∷ told 2 2 12 ∷ [])
+unfolding drained keyOf inRange itemOf itemsMatch partOf alive presentAt together covers used doneBefore rowAt putRow entryAt putEntry pairAt putPair entries listOf probedAt lay victim arrivalPairs wanted wantedPairs pairsFrom putFrom flush store note shut move verdict sessionFits roomFor checks joins arrives evicts runs drains effect afterCall ask play
+drained-pairs = refl
+
+drained-sheets : (drained runStage .world .a ≡ runStage .world .a) × (drained runStage .world .b ≡ runStage .world .b) × (drained runStage .world .probe ≡ runStage .world .probe)
+unfolding drained keyOf inRange itemOf itemsMatch partOf alive presentAt together covers used doneBefore rowAt putRow entryAt putEntry pairAt putPair entries listOf probedAt lay victim arrivalPairs wanted wantedPairs pairsFrom putFrom flush store note shut move verdict sessionFits roomFor checks joins arrives evicts runs drains effect afterCall ask play
+drained-sheets = (refl, refl, refl)
