@@ -10,7 +10,8 @@ use Rattle.stamps.specs.declared.Message.{Message}
 use Rattle.stamps.specs.declared.Row.{Row}
 use Rattle.stamps.specs.Keys.{keyOf, inRange, itemOf, itemsMatch, partOf}
 use Rattle.stamps.specs.Stamps.{alive, presentAt, together, covers, used, doneBefore}
-use Rattle.sheets.specs.Layout.{rowAt, putRow, entryAt, putEntry, Told, pairAt, putPair}
+use Rattle.sheets.specs.Layout.{rowAt, putRow, entryAt, putEntry, pairAt, putPair}
+use Rattle.sheets.specs.declared.layout.Told.{Told}
 use Rattle.sheets.specs.Lists.{entries, listOf, probedAt}
 use Rattle.sheets.specs.Rows.{lay, victim}
 use Rattle.sheets.specs.Pairs.{arrivalPairs, wanted, wantedPairs, pairsFrom, putFrom, pairsAt}

@@ -7,6 +7,7 @@ use Rattle.stamps.specs.declared.Source.{Source}
 use Rattle.stamps.specs.declared.Source.the-variants.{A, B}
 use Rattle.stamps.specs.declared.Row.{Row}
 use Rattle.stamps.specs.declared.Entry.{Entry}
+pub use Rattle.sheets.specs.declared.layout.Told.{Told}
 pub mod Meaning
 pub mod Laws
 
@@ -48,11 +49,6 @@ unfoldable pub putEntry : ℕ → ℕ → Entry → List ℕ → List ℕ
 putEntry k e x l = sets l (64 * k + 2 * e) (entryWords x)
 
 -- ---- pairs: "A pair is (A row number, B row number, key)", "three words a pair"
-
-pub record Told : Type 0 where
-  pub a : ℕ
-  pub b : ℕ
-  pub key : ℕ
 
 abbrev pub pairsNeed : ℕ → ℕ
 pairsNeed n = 3 * n

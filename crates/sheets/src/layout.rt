@@ -7,7 +7,7 @@ ghost use mathlib.Core.Path.{_≡_};
 ghost use Prim.Native.Nat.{_+_, _≤_, _<_};
 ghost use lib.ListN.{length};
 ghost use Rattle.stamps.specs.Stamps.Laws.{stamp};
-ghost use Rattle.sheets.specs.Layout.{rowsNeed, probeNeed, roomOf, rowAt, putRow, listNo, listNeed, entryAt, putEntry, pairsNeed, putPair};
+ghost use Rattle.sheets.specs.Layout.{rowsNeed, probeNeed, roomOf, rowAt, putRow, listNo, listNeed, entryAt, putEntry, pairsNeed, pairAt, putPair};
 ghost use Rattle.sheets.specs.Pairs.{tell};
 
 const ROW: usize = 3;
@@ -116,6 +116,25 @@ pub fn put_entry(probe: &mut [u32], list: usize, e: usize, x: Entry)
     let at = LIST * list + ENTRY * e;
     probe[at] = x.last;
     probe[at + 1] = x.probe;
+}
+
+// A pair as it stands in an output.
+pub struct Told {
+    pub a: u32,
+    pub b: u32,
+    pub key: u32,
+}
+
+pub fn pair_at(out: &[u32], w: usize) -> Told
+    requires { ⌜ pairsNeed (w + 1) ≤ length (now out) ⌝ }
+    ensures { λ r. ⌜ r ≡ pairAt (now (out .entry)) w ⌝ }
+{
+    let at = PAIR * w;
+    Told {
+        a: out[at],
+        b: out[at + 1],
+        key: out[at + 2],
+    }
 }
 
 // Pair number w.

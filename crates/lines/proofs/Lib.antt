@@ -1,0 +1,6 @@
+mod FieldTurns
+mod GatherTurns
+pub mod Laws
+mod PrintTurns
+mod Tested
+mod WordTurns

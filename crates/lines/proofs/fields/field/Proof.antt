@@ -1,0 +1,24 @@
+-- `lines::fields::field` meets its contract: what each function below hands on is what `trim` and `rawAt` say.
+-- Assumes nothing.
+use borrow.Author.Needs.{needs}
+use Rattle.lines.specs.Fields.{trim}
+use Rattle.lines.proofs.FieldTurns.{to-end, field-is}
+use Rattle.lines.proofs.fields.field.Statement.{statement}
+use Rattle.lines.proofs.fields.field.Tie as tie
+
+returns : tie.Need-returns
+unfolding trim
+returns c = rw (field-is, c .drop-blanks .ensures, c .before .skip-blanks .ensures, c .before .before .until-comma .ensures, to-end, c .before .before .before .before .start-of .ensures .0)
+
+pub field-spec : {M : Type 1} → statement M
+field-spec =
+    tie.close
+    (tie.spec
+    (λ c κs. search needs)
+    (λ c. search needs)
+    (λ c. search needs)
+    (λ c. search needs)
+    (λ c κs. search needs)
+    (λ c κs. search needs)
+    (λ c κs. search needs)
+    returns)

@@ -1,0 +1,41 @@
+-- `lines::gathering::take_bytes` meets its contract: what is left of the input makes of the buffer what all of it does.
+-- Assumes nothing.
+use borrow.Author.Needs.{needs}
+use Prim.Native.Nat.{_-_}
+use lib.ListN.{length}
+use Rattle.lines.proofs.GatherTurns.{Taking, taking-first, taking-byte, taking-line, taking-all}
+use Rattle.lines.proofs.gathering.take_bytes.Statement.{statement}
+use Rattle.lines.proofs.gathering.take_bytes.Tie as tie
+
+abbrev Inv-loop : tie.InvT-loop
+Inv-loop line₀ have input from held₀ i₀ line held i = Taking line₀ have input from line held i
+
+abbrev μ-loop : tie.MeasureT-loop
+μ-loop line₀ have input from held₀ i₀ line held i = length input - i
+
+loop-holds : tie.Need-loop-holds Inv-loop μ-loop
+loop-holds c = taking-first _ _ _ _ (c .before .pre .0) (c .before .pre .1)
+
+returns : tie.Need-returns Inv-loop μ-loop
+returns c = taking-line _ _ _ _ _ _ _ (c .before .before .before .loop .inv) (c .before .before .loop-test .taken) (c .if1 .taken)
+
+loop-again : tie.Need-loop-again Inv-loop μ-loop
+loop-again c = rw (c .keep .ensures .0, c .keep .ensures .1) (taking-byte _ _ _ _ _ _ _ (c .before .before .before .before .before .loop .inv) (c .before .before .before .before .loop-test .taken) (c .before .before .if1 .left) (rw (c .keep .ensures .0) at (c .keep .ensures .2)))
+
+returns-2 : tie.Need-returns-2 Inv-loop μ-loop
+returns-2 c = taking-all _ _ _ _ _ _ _ (c .before .loop .inv) (c .loop-test .left)
+
+pub take-bytes-spec : {M : Type 1} → statement M
+take-bytes-spec =
+    tie.close
+    (tie.spec
+    Inv-loop
+    μ-loop
+    loop-holds
+    (λ c. search needs)
+    (λ c. search needs)
+    returns
+    (λ c κs. search needs)
+    (λ c. search needs)
+    loop-again
+    returns-2)

@@ -1,0 +1,34 @@
+-- `lines::printing::put_no` meets its contract: the pieces make the whole, by whether a count is named.
+-- Assumes nothing.
+use borrow.Author.Needs.{needs}
+use Rattle.lines.proofs.PrintTurns.{put-then}
+use Rattle.lines.specs.Printing.{noText}
+use Rattle.lines.proofs.printing.put_no.Statement.{statement}
+use Rattle.lines.proofs.printing.put_no.Tie as tie
+
+returns : tie.Need-returns
+unfolding noText
+returns c = (rw (← c .before .before .before .before .before .before .before .before .need-of .ensures, c .before .before .before .before .before .before .n .given .1, ← c .before .before .before .before .before .before .before .before .before .before .before .before .code-of .ensures) (put-then (c .before .before .before .before .before .before .before .before .before .before .before .put-worded .ensures .0) (c .before .before .put-said .ensures .0)), search needs)
+
+returns-2 : tie.Need-returns-2
+unfolding noText
+returns-2 c = (rw (← c .before .before .before .before .before .before .before .need-of .ensures, c .before .before .before .before .before .enum-told .given .1, ← c .before .before .before .before .before .before .before .before .before .before .before .code-of .ensures) (put-then (c .before .before .before .before .before .before .before .before .before .before .put-worded .ensures .0) (c .before .before .put-text .ensures)), search needs)
+
+pub put-no-spec : {M : Type 1} → statement M
+put-no-spec =
+    tie.close
+    (tie.spec
+    (λ c. search needs)
+    (λ c κs. search needs)
+    (λ c κs. search needs)
+    (λ c κs. search needs)
+    (λ c. search needs)
+    (λ c. search needs)
+    (λ c κs. search needs)
+    (λ c. search needs)
+    (λ c. search needs)
+    (λ c κs. search needs)
+    (λ c. search needs)
+    returns
+    (λ c. search needs)
+    returns-2)

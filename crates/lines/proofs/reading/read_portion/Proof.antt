@@ -1,0 +1,39 @@
+-- `lines::reading::read_portion` meets its contract: each test and each field is one of `portionOf`.
+-- Assumes nothing.
+use borrow.Author.Needs.{needs}
+use Rattle.lines.specs.Reading.{portionOf}
+use Rattle.lines.proofs.Tested.{told-eq, told-ne}
+use Rattle.lines.proofs.reading.read_portion.Statement.{statement}
+use Rattle.lines.proofs.reading.read_portion.Tie as tie
+
+returns : tie.Need-returns
+unfolding portionOf
+returns c = rw (told-ne (c .before .count .ensures) (c .if1 .taken))
+
+returns-2 : tie.Need-returns-2
+unfolding portionOf
+returns-2 c = rw (told-eq (c .before .before .before .before .count .ensures) (c .before .before .before .if1 .left), ← c .before .before .side-at .ensures, c .enum-told .given .1)
+
+returns-3 : tie.Need-returns-3
+unfolding portionOf
+returns-3 c = rw (told-eq (c .before .before .before .before .before .before .before .before .count .ensures) (c .before .before .before .before .before .before .before .if1 .left), ← c .before .before .before .before .before .before .side-at .ensures, c .before .before .before .before .source .given .1, ← c .before .before .number-at .ensures, c .enum-told2 .given .1)
+
+returns-4 : tie.Need-returns-4
+unfolding portionOf
+returns-4 c = rw (told-eq (c .before .before .before .before .before .before .before .before .before .count .ensures) (c .before .before .before .before .before .before .before .before .if1 .left), ← c .before .before .before .before .before .before .before .side-at .ensures, c .before .before .before .before .before .source .given .1, ← c .before .before .before .number-at .ensures, c .before .part .given .1)
+
+pub read-portion-spec : {M : Type 1} → statement M
+read-portion-spec =
+    tie.close
+    (tie.spec
+    (λ c κs. search needs)
+    returns
+    (λ c κs. search needs)
+    (λ c. search needs)
+    (λ c. search needs)
+    returns-2
+    (λ c κs. search needs)
+    (λ c. search needs)
+    (λ c. search needs)
+    returns-3
+    returns-4)

@@ -1,0 +1,15 @@
+-- `lines::reading::run_line` meets its contract: the portion is what `portionOf` says.
+-- Assumes nothing.
+use borrow.Author.Needs.{needs}
+use Rattle.lines.proofs.reading.run_line.Statement.{statement}
+use Rattle.lines.proofs.reading.run_line.Tie as tie
+
+returns : tie.Need-returns
+returns c = rw (← c .before .before .read-portion .ensures, c .enum-told .given .1)
+
+returns-2 : tie.Need-returns-2
+returns-2 c = rw (← c .before .before .before .read-portion .ensures, c .before .source .given .1)
+
+pub run-line-spec : {M : Type 1} → statement M
+run-line-spec =
+    tie.close (tie.spec (λ c κs. search needs) (λ c. search needs) (λ c. search needs) returns returns-2)

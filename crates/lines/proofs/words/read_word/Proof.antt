@@ -1,0 +1,60 @@
+-- `lines::words::read_word` meets its contract: each test that is passed or met is a test of `wordOf`.
+-- Assumes nothing.
+use borrow.Author.Needs.{needs}
+use Rattle.lines.specs.Words.{wordOf}
+use Rattle.lines.proofs.Tested.{told}
+use Rattle.lines.proofs.words.read_word.Statement.{statement}
+use Rattle.lines.proofs.words.read_word.Tie as tie
+
+returns : tie.Need-returns
+unfolding wordOf
+returns c = rw (told (c .before .is-same .ensures) (c .if1 .taken))
+
+returns-2 : tie.Need-returns-2
+unfolding wordOf
+returns-2 c = rw (told (c .before .before .before .before .is-same .ensures) (c .before .before .before .if1 .left), told (c .before .is-same2 .ensures) (c .if2 .taken))
+
+returns-3 : tie.Need-returns-3
+unfolding wordOf
+returns-3 c = rw (told (c .before .before .before .before .before .before .before .is-same .ensures) (c .before .before .before .before .before .before .if1 .left), told (c .before .before .before .before .is-same2 .ensures) (c .before .before .before .if2 .left), told (c .before .is-same3 .ensures) (c .if3 .taken))
+
+returns-4 : tie.Need-returns-4
+unfolding wordOf
+returns-4 c = rw (told (c .before .before .before .before .before .before .before .before .before .before .is-same .ensures) (c .before .before .before .before .before .before .before .before .before .if1 .left), told (c .before .before .before .before .before .before .before .is-same2 .ensures) (c .before .before .before .before .before .before .if2 .left), told (c .before .before .before .before .is-same3 .ensures) (c .before .before .before .if3 .left), told (c .before .is-same4 .ensures) (c .if4 .taken))
+
+returns-5 : tie.Need-returns-5
+unfolding wordOf
+returns-5 c = rw (told (c .before .before .before .before .before .before .before .before .before .before .before .before .before .is-same .ensures) (c .before .before .before .before .before .before .before .before .before .before .before .before .if1 .left), told (c .before .before .before .before .before .before .before .before .before .before .is-same2 .ensures) (c .before .before .before .before .before .before .before .before .before .if2 .left), told (c .before .before .before .before .before .before .before .is-same3 .ensures) (c .before .before .before .before .before .before .if3 .left), told (c .before .before .before .before .is-same4 .ensures) (c .before .before .before .if4 .left), told (c .before .is-same5 .ensures) (c .if5 .taken))
+
+returns-6 : tie.Need-returns-6
+unfolding wordOf
+returns-6 c = rw (told (c .before .before .before .before .before .before .before .before .before .before .before .before .before .before .before .before .before .is-same .ensures) (c .before .before .before .before .before .before .before .before .before .before .before .before .before .before .before .before .if1 .left), told (c .before .before .before .before .before .before .before .before .before .before .before .before .before .before .is-same2 .ensures) (c .before .before .before .before .before .before .before .before .before .before .before .before .before .if2 .left), told (c .before .before .before .before .before .before .before .before .before .before .before .is-same3 .ensures) (c .before .before .before .before .before .before .before .before .before .before .if3 .left), told (c .before .before .before .before .before .before .before .before .is-same4 .ensures) (c .before .before .before .before .before .before .before .if4 .left), told (c .before .before .before .before .before .is-same5 .ensures) (c .before .before .before .before .if5 .left), ← c .before .before .before .read-side .ensures, c .before .source .given .1)
+
+returns-7 : tie.Need-returns-7
+unfolding wordOf
+returns-7 c = rw (told (c .before .before .before .before .before .before .before .before .before .before .before .before .before .before .before .before .is-same .ensures) (c .before .before .before .before .before .before .before .before .before .before .before .before .before .before .before .if1 .left), told (c .before .before .before .before .before .before .before .before .before .before .before .before .before .is-same2 .ensures) (c .before .before .before .before .before .before .before .before .before .before .before .before .if2 .left), told (c .before .before .before .before .before .before .before .before .before .before .is-same3 .ensures) (c .before .before .before .before .before .before .before .before .before .if3 .left), told (c .before .before .before .before .before .before .before .is-same4 .ensures) (c .before .before .before .before .before .before .if4 .left), told (c .before .before .before .before .is-same5 .ensures) (c .before .before .before .if5 .left), ← c .before .before .read-side .ensures, c .enum-told .given .1)
+
+pub read-word-spec : {M : Type 1} → statement M
+read-word-spec =
+    tie.close
+    (tie.spec
+    (λ c. search needs)
+    (λ c κs. search needs)
+    returns
+    (λ c. search needs)
+    (λ c κs. search needs)
+    returns-2
+    (λ c. search needs)
+    (λ c κs. search needs)
+    returns-3
+    (λ c. search needs)
+    (λ c κs. search needs)
+    returns-4
+    (λ c. search needs)
+    (λ c κs. search needs)
+    returns-5
+    (λ c κs. search needs)
+    (λ c. search needs)
+    (λ c. search needs)
+    returns-6
+    returns-7)

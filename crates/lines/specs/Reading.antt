@@ -1,0 +1,120 @@
+-- What a line asks for: "The first field is one of the words", "Anything else is BadLine".
+use mathlib.Core.Bool.{cond}
+use mathlib.Core.List.{List, []}
+use Prim.Native.Nat.{ℕ}
+use lib.Dec.{leb, eqb}
+use lib.ListN.{length, getD}
+use Rattle.stamps.specs.declared.Source.{Source}
+use Rattle.calls.specs.declared.types.Call.the-variants as call
+use Rattle.lines.specs.declared.numbers.Number.{Number}
+use Rattle.lines.specs.declared.numbers.Number.the-variants as number
+use Rattle.lines.specs.declared.words.Side.{Side}
+use Rattle.lines.specs.declared.words.Side.the-variants as side
+use Rattle.lines.specs.declared.words.Word.{Word}
+use Rattle.lines.specs.declared.words.Word.the-variants as word
+use Rattle.lines.specs.declared.reading.Line.{Line}
+use Rattle.lines.specs.declared.reading.Line.the-variants as line
+use Rattle.lines.specs.declared.reading.Portion.{Portion}
+use Rattle.lines.specs.declared.reading.Portion.the-variants as portion
+use Rattle.lines.specs.Fields.{fields, fieldAt}
+use Rattle.lines.specs.Numbers.{numberOf}
+use Rattle.lines.specs.Words.{sideOf, wordOf}
+
+-- ---- the kinds of fields
+
+-- field k as a number
+abbrev pub numberAt : List (List ℕ) → ℕ → Number
+numberAt fs k = numberOf (getD fs k [])
+
+-- field k as a source
+abbrev pub sideAt : List (List ℕ) → ℕ → Side
+sideAt fs k = sideOf (getD fs k [])
+
+-- what n fields say; any other count of them says nothing
+abbrev pub ofCount : ℕ → List (List ℕ) → Line → Line
+ofCount n fs says = cond (eqb (length fs) n) says line.Bad
+
+-- ---- the lines, one for each word
+
+-- P, M and N, where all three are numbers
+abbrev pub start : Number → Number → Number → Line
+start (number.Value p) (number.Value m) (number.Value n) = line.Start p m n
+start (number.Value p) (number.Value m) number.Bad = line.Bad
+start (number.Value p) number.Bad n = line.Bad
+start number.Bad m n = line.Bad
+
+-- "START,P,M,N"
+unfoldable pub startLine : List (List ℕ) → Line
+startLine fs = ofCount 4 fs (start (numberAt fs 1) (numberAt fs 2) (numberAt fs 3))
+
+-- a message of source s, where both are numbers
+abbrev pub arrive : Source → Number → Number → Line
+arrive s (number.Value car) (number.Value lap) = line.Ask (call.Arrive s (record { car = car; lap = lap }))
+arrive s (number.Value car) number.Bad = line.Bad
+arrive s number.Bad lap = line.Bad
+
+-- "A,car,lap; B,car,lap"
+unfoldable pub arriveLine : Source → List (List ℕ) → Line
+arriveLine s fs = ofCount 3 fs (arrive s (numberAt fs 1) (numberAt fs 2))
+
+-- a portion, where both are what they should be
+abbrev pub pick : Side → Number → Portion
+pick (side.Of s) (number.Value p) = portion.Of s p
+pick (side.Of s) number.Bad = portion.Bad
+pick side.Neither p = portion.Bad
+
+-- "source,partition" after a word
+unfoldable pub portionOf : List (List ℕ) → Portion
+portionOf fs = cond (eqb (length fs) 3) (pick (sideAt fs 1) (numberAt fs 2)) portion.Bad
+
+-- a portion to evict
+abbrev pub evict : Portion → Line
+evict (portion.Of s p) = line.Ask (call.Evict s p)
+evict portion.Bad = line.Bad
+
+-- "EVICT,source,partition"
+abbrev pub evictLine : List (List ℕ) → Line
+evictLine fs = evict (portionOf fs)
+
+-- a portion to run
+abbrev pub run : Portion → Line
+run (portion.Of s p) = line.Ask (call.Run s p)
+run portion.Bad = line.Bad
+
+-- "RUN,source,partition"
+abbrev pub runLine : List (List ℕ) → Line
+runLine fs = run (portionOf fs)
+
+-- a source to close
+abbrev pub close : Side → Line
+close (side.Of s) = line.Ask (call.Close s)
+close side.Neither = line.Bad
+
+-- "CLOSE,source"
+unfoldable pub closeLine : List (List ℕ) → Line
+closeLine fs = ofCount 2 fs (close (sideAt fs 1))
+
+-- "DRAIN with more than 512" is BadLine
+abbrev pub drain : Number → Line
+drain (number.Value room) = cond (leb room 512) (line.Drain room) line.Bad
+drain number.Bad = line.Bad
+
+-- "DRAIN,room"
+unfoldable pub drainLine : List (List ℕ) → Line
+drainLine fs = ofCount 2 fs (drain (numberAt fs 1))
+
+-- ---- a line
+
+-- the word picks the line
+abbrev pub lineOf : Word → List (List ℕ) → Line
+lineOf word.Start fs = startLine fs
+lineOf (word.Arrive s) fs = arriveLine s fs
+lineOf word.Evict fs = evictLine fs
+lineOf word.Run fs = runLine fs
+lineOf word.Close fs = closeLine fs
+lineOf word.Drain fs = drainLine fs
+lineOf word.Unknown fs = line.Bad
+
+-- "At most 80 bytes before the LF"; the first field is the word
+unfoldable pub readLine : List ℕ → Line
+readLine l = cond (leb (length l) 80) (lineOf (wordOf (fieldAt l 0)) (fields l)) line.Bad

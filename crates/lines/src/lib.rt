@@ -1,0 +1,7 @@
+// The text of the session program: what a line says, and what is printed.
+pub mod fields;
+pub mod gathering;
+pub mod numbers;
+pub mod printing;
+pub mod reading;
+pub mod words;

@@ -1,0 +1,36 @@
+// Numbers in a line: "Numbers are 1 to 4 decimal digits".
+ghost use mathlib.Core.Path.{_≡_};
+ghost use Rattle.lines.specs.Numbers.{isDigit, numberOf};
+
+pub enum Number {
+    Value(u32),
+    Bad,
+}
+
+fn is_digit(byte: u8) -> bool
+    ensures { λ r. ⌜ r ≡ isDigit byte ⌝ }
+{
+    (b'0' <= byte) & (byte <= b'9')
+}
+
+pub fn read_number(text: &[u8]) -> Number
+    ensures { λ r. ⌜ r ≡ numberOf (now (text .entry)) ⌝ }
+{
+    if text.len() < 1 {
+        return Number::Bad;
+    }
+    if 4 < text.len() {
+        return Number::Bad;
+    }
+    let mut value: u32 = 0;
+    let mut i = 0;
+    while i < text.len() {
+        let byte = text[i];
+        if !is_digit(byte) {
+            return Number::Bad;
+        }
+        value = 10 * value + (byte - b'0') as u32;
+        i += 1;
+    }
+    Number::Value(value)
+}
