@@ -15,24 +15,14 @@ use Rattle.sheets.specs.declared.layout.Told.{Told}
 use Rattle.sheets.specs.Lists.{entries, listOf, probedAt}
 use Rattle.sheets.specs.Rows.{lay, victim}
 use Rattle.sheets.specs.Pairs.{arrivalPairs, wanted, wantedPairs, pairsFrom, putFrom, pairsAt}
+use Rattle.calls.specs.Answers.{pairsOf}
 use Rattle.calls.specs.World.{World, flush, store, note, shut, move}
 use Rattle.calls.specs.Refusals.{verdict, sessionFits, roomFor, checks}
 use Rattle.calls.specs.Calls.{After, fresh, joins, arrives, evicts, runs, drains, effect, afterCall}
 use Rattle.calls.specs.declared.types.Call.{Call}
 use Rattle.calls.specs.declared.types.Call.the-variants.{Arrive, Evict, Run, Close, Drain}
 use Rattle.calls.specs.declared.types.Answer.{Answer}
-use Rattle.calls.specs.declared.types.Answer.the-variants.{Opened, Taken, Flushed, Ran, Shut, More, Done, Refused}
-
--- the pairs that an answer speaks of
-abbrev pub pairsOf : Answer → ℕ
-pairsOf Opened = 0
-pairsOf (Taken n) = n
-pairsOf (Flushed n) = 0
-pairsOf (Ran n) = n
-pairsOf Shut = 0
-pairsOf (More n) = n
-pairsOf (Done n) = n
-pairsOf (Refused y) = 0
+use Rattle.calls.specs.declared.types.Answer.the-variants.{Taken, Flushed, Ran, Shut, More, Done}
 
 -- the box, what it answered, and what it wrote
 pub record Played : Type 0 where

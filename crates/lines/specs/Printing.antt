@@ -6,6 +6,7 @@ use Prim.Native.Nat.{ℕ, zero, suc, _+_, _*_, _/_, _%_}
 use lib.Dec.{ltb}
 use lib.ListN.{length}
 use lib.Seq.{sets}
+pub use Rattle.calls.specs.Answers.{codeOf, pairsOf}
 use Rattle.calls.specs.declared.types.Answer.{Answer}
 use Rattle.calls.specs.declared.types.Answer.the-variants as answer
 use Rattle.calls.specs.declared.types.Why.{Why}
@@ -85,19 +86,6 @@ pairsText (p ∷ ps) = pairText p ++ pairsText ps
 
 -- ---- answers
 
--- the numbers of document 01
-abbrev pub codeOf : Why → ℕ
-codeOf why.BadSheet = 1
-codeOf why.BadKey = 2
-codeOf why.BadPart = 3
-codeOf why.Closed = 4
-codeOf why.SheetFull = 5
-codeOf why.ListFull = 6
-codeOf why.StillOpen = 7
-codeOf (why.RoomShort n) = 8
-codeOf why.BadLine = 9
-codeOf why.NoStart = 10
-
 -- the count that a refusal names, where it names one
 abbrev pub needOf : Why → Need
 needOf why.BadSheet = need.Nothing
@@ -134,17 +122,6 @@ answerText (answer.Refused w) = noText w
 -- the bytes that an answer takes at most
 abbrev pub answerMost : ℕ
 answerMost = 25
-
--- the pairs that an answer says were written
-abbrev pub pairsOf : Answer → ℕ
-pairsOf answer.Opened = 0
-pairsOf (answer.Taken n) = n
-pairsOf (answer.Flushed n) = 0
-pairsOf (answer.Ran n) = n
-pairsOf answer.Shut = 0
-pairsOf (answer.More n) = n
-pairsOf (answer.Done n) = n
-pairsOf (answer.Refused w) = 0
 
 -- "For each line it prints the pairs .. then" the answer
 unfoldable pub replyText : List ℕ → Answer → List ℕ

@@ -1,0 +1,30 @@
+-- Document 01's number and values for each kind of answer.
+use Prim.Native.Nat.{ℕ}
+use Rattle.calls.specs.declared.types.Why.{Why}
+use Rattle.calls.specs.declared.types.Why.the-variants.{BadSheet, BadKey, BadPart, Closed, SheetFull, ListFull, StillOpen, RoomShort, BadLine, NoStart}
+use Rattle.calls.specs.declared.types.Answer.{Answer}
+use Rattle.calls.specs.declared.types.Answer.the-variants.{Opened, Taken, Flushed, Ran, Shut, More, Done, Refused}
+
+-- the number of a refusal in the table
+abbrev pub codeOf : Why → ℕ
+codeOf BadSheet = 1
+codeOf BadKey = 2
+codeOf BadPart = 3
+codeOf Closed = 4
+codeOf SheetFull = 5
+codeOf ListFull = 6
+codeOf StillOpen = 7
+codeOf (RoomShort n) = 8
+codeOf BadLine = 9
+codeOf NoStart = 10
+
+-- the pairs that an answer says were written
+abbrev pub pairsOf : Answer → ℕ
+pairsOf Opened = 0
+pairsOf (Taken n) = n
+pairsOf (Flushed n) = 0
+pairsOf (Ran n) = n
+pairsOf Shut = 0
+pairsOf (More n) = n
+pairsOf (Done n) = n
+pairsOf (Refused w) = 0
