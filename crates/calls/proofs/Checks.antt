@@ -1,20 +1,18 @@
 -- What the checks have seen to, and the laws of checks in order.
 -- Assumes nothing.
-use mathlib.Core.Path.{_≡_, refl, sym, ap, _∙_}
-use mathlib.Core.Bool.{Bool, true, false, cond, not, _&&_}
-use mathlib.Core.List.{List, [], _∷_, _++_}
-use Prim.Native.Nat.{ℕ, zero, suc, _+_, _*_, _^_, _≤_, _<_}
+use mathlib.Core.Path.{_≡_, refl}
+use mathlib.Core.Bool.{Bool, true, false}
+use mathlib.Core.List.{List}
+use Prim.Native.Nat.{ℕ, zero, suc, _*_, _^_, _≤_, _<_}
 use native.Mathlib.Nat.{le-trans, mul-le-mul-left, mul-le-mul-right}
 use native.Mathlib.Omega.{arith}
 use lib.Dec.{leb, eqb}
-use lib.ListN.{length, getD}
+use lib.ListN.{getD}
 use borrow.Author.Tests.{eqb-true}
 use Rattle.stamps.specs.Counting.Laws.{tests, both, Each, each}
-use Rattle.calls.specs.Refusals.{Check, verdict, between, sizeTests, sizesFit, numberTests, numbersFit, countsFit, sessionFits}
+use Rattle.calls.specs.Refusals.{between, sizeTests, sizesFit, numberTests, numbersFit, countsFit, sessionFits}
 use Rattle.calls.specs.Work.{Sizes, Fits}
 use Rattle.calls.specs.declared.types.Session.{Session}
-use Rattle.calls.specs.declared.refusals.Verdict.{Verdict}
-use Rattle.calls.specs.declared.refusals.Verdict.the-variants.{Good, No}
 
 -- the product of two words
 pub product-fits : (x y : ℕ) → x < 2 ^ 32 → y < 2 ^ 32 → x * y < 2 ^ 64

@@ -2,7 +2,7 @@
 -- By cases on the verdict and on the call. Assumes nothing.
 use mathlib.Core.Path.{_≡_, refl, sym, ap, _∙_}
 use mathlib.Core.Bool.{Bool, true, false, cond}
-use mathlib.Core.List.{List, [], _∷_}
+use mathlib.Core.List.{List}
 use Prim.Native.Nat.{ℕ, suc, _+_, _≤_}
 use native.Mathlib.Omega.{arith}
 use lib.Dec.{ltb}
@@ -22,8 +22,7 @@ use Rattle.calls.specs.World.{World, countOf, rowsOf, seenFrom, flush, s
 use Rattle.calls.specs.declared.types.Call.{Call}
 use Rattle.calls.specs.declared.types.Call.the-variants.{Arrive, Evict, Run, Close, Drain}
 use Rattle.calls.specs.declared.types.Why.{Why}
-use Rattle.calls.specs.declared.types.Answer.{Answer}
-use Rattle.calls.specs.declared.types.Answer.the-variants.{Taken, Flushed, Ran, Shut, More, Done, Refused}
+use Rattle.calls.specs.declared.types.Answer.the-variants.{Ran, More, Done, Refused}
 use Rattle.calls.specs.declared.types.Reply.{Reply}
 use Rattle.calls.specs.declared.refusals.Verdict.{Verdict}
 use Rattle.calls.specs.declared.refusals.Verdict.the-variants.{Good, No}

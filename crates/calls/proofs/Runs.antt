@@ -2,8 +2,8 @@
 -- Assumes nothing.
 use mathlib.Core.Path.{_≡_, refl, sym, ap, ap₂, _∙_}
 use mathlib.Core.Bool.{Bool, true, false, cond, _||_, or-true}
-use mathlib.Core.List.{List, [], _∷_, _++_}
-use Prim.Native.Nat.{ℕ, suc, _+_, _*_, _≤_, _<_}
+use mathlib.Core.List.{List, []}
+use Prim.Native.Nat.{ℕ, _+_, _≤_, _<_}
 use native.Mathlib.Omega.{arith}
 use native.Mathlib.Numerals.{add-one}
 use lib.Dec.{ltb, leb, eqb}
@@ -14,7 +14,7 @@ use Rattle.stamps.specs.declared.Source.{Source}
 use Rattle.stamps.specs.declared.Source.the-variants.{A, B}
 use Rattle.stamps.specs.declared.Entry.{Entry}
 use Rattle.stamps.specs.Sources.{other}
-use Rattle.sheets.specs.Layout.{rowsNeed, probeNeed, roomOf, rowAt, listNo, listNeed, putEntry}
+use Rattle.sheets.specs.Layout.{rowsNeed, roomOf, rowAt, listNo, listNeed, putEntry}
 use Rattle.sheets.specs.Lists.{listOf, entries, probedAt}
 use Rattle.sheets.specs.Rows.{latest}
 use Rattle.sheets.specs.Pairs.{Table, tableOf, Ready, Writes, wantedPairs, pairsFrom, told, putFrom}
@@ -27,9 +27,8 @@ use Rattle.sheets.proofs.Laws.{latest-none, list-entries, length-list, list-sma
 use Rattle.calls.specs.Calls.{After, after, runs, owed, drains, effect, settle, afterCall}
 use Rattle.calls.specs.Refusals.{verdict, idle, ran, portionChecks, runChecks, checks}
 use Rattle.calls.specs.Work.{world, Fits, Listed, worldFrom, jobFrom, taskOf, ranUpto, runSettled}
-use Rattle.calls.specs.World.{World, pick, countOf, sheetOf, rowsOf, sideOf, seenFrom, withCounts, withNext, note, move}
+use Rattle.calls.specs.World.{World, pick, countOf, rowsOf, sideOf, seenFrom, withCounts, withNext, note, move}
 use Rattle.calls.specs.declared.types.Session.{Session}
-use Rattle.calls.specs.declared.types.Answer.{Answer}
 use Rattle.calls.specs.declared.types.Answer.the-variants.{More, Done, Ran, Refused}
 use Rattle.calls.specs.declared.types.Why.{Why}
 use Rattle.calls.specs.declared.types.Why.the-variants.{ListFull, RoomShort}

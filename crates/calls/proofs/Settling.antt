@@ -1,25 +1,24 @@
 -- A call settled: by the first check that fails, or by what it does. One law for all calls.
 -- Assumes nothing.
-use mathlib.Core.Path.{_≡_, refl, sym, ap, _∙_}
+use mathlib.Core.Path.{_≡_, refl, ap, _∙_}
 use mathlib.Core.Bool.{Bool, true, false, cond, not}
 use mathlib.Core.List.{List, [], _∷_, _++_}
-use Prim.Native.Nat.{ℕ, _+_, _≤_, _<_}
+use Prim.Native.Nat.{ℕ, _+_}
 use native.Mathlib.Omega.{arith}
 use lib.ListN.{length}
 use borrow.Author.Tests.{not-false}
 use Rattle.stamps.specs.declared.Source.{Source}
-use Rattle.sheets.specs.Layout.{rowsNeed, roomOf, rowAt}
-use Rattle.sheets.specs.Rows.{Flushes, portionRows}
-use Rattle.calls.specs.Calls.{After, after, effect, settle, afterCall, evicts}
-use Rattle.calls.specs.Refusals.{Check, check, verdict, sessionFits, checks, portionChecks}
+use Rattle.sheets.specs.Layout.{roomOf}
+use Rattle.sheets.specs.Rows.{Flushes}
+use Rattle.calls.specs.Calls.{After, after, effect, afterCall, evicts}
+use Rattle.calls.specs.Refusals.{Check, check, verdict, sessionFits, checks}
 use Rattle.calls.specs.Work.{world, Fits, Rows, Clears}
-use Rattle.calls.specs.World.{World, pick, feedOf, sheetOf, countOf, withClock, withSheet, flush}
+use Rattle.calls.specs.World.{World, sheetOf, countOf, withClock, withSheet, flush}
 use Rattle.calls.specs.declared.types.Call.{Call}
 use Rattle.calls.specs.declared.types.Why.{Why}
 use Rattle.calls.specs.declared.types.Why.the-variants.{BadSheet}
 use Rattle.calls.specs.declared.types.Answer.the-variants.{Refused, Flushed}
 use Rattle.calls.specs.declared.types.Session.{Session}
-use Rattle.calls.specs.declared.refusals.Verdict.{Verdict}
 use Rattle.calls.specs.declared.refusals.Verdict.the-variants.{Good, No}
 use Rattle.calls.proofs.Checks.{fits-are}
 

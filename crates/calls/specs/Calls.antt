@@ -1,6 +1,6 @@
 -- What each call answers and leaves: the record, every word of the sheets and of the output.
-use mathlib.Core.Bool.{Bool, false, cond}
-use mathlib.Core.List.{List, []}
+use mathlib.Core.Bool.{false, cond}
+use mathlib.Core.List.{List}
 use Prim.Native.Nat.{ℕ, _*_}
 use lib.Dec.{ltb}
 use lib.ListN.{length, take, replicate}
@@ -10,7 +10,7 @@ use Rattle.stamps.specs.declared.Item.{Item}
 use Rattle.stamps.specs.Keys.{itemOf}
 use Rattle.stamps.specs.Sources.{other}
 use Rattle.sheets.specs.Layout.{roomOf}
-use Rattle.sheets.specs.Pairs.{Pair, Table, pairsFrom, past, tellAll, told, putFrom}
+use Rattle.sheets.specs.Pairs.{Pair, pairsFrom, past, tellAll, told, putFrom}
 use Rattle.sheets.specs.Rows.{portionRows, latest}
 use Rattle.sheets.specs.declared.pairs.Scope.the-variants.{All}
 use Rattle.calls.specs.World.{World, countOf, rowsOf, seenFrom, flush, store, note, shut, move}
@@ -18,7 +18,6 @@ use Rattle.calls.specs.Refusals.{verdict, sizesFit, roomFor, makeRoom, a
 use Rattle.calls.specs.declared.types.Session.{Session}
 use Rattle.calls.specs.declared.types.Call.{Call}
 use Rattle.calls.specs.declared.types.Call.the-variants.{Arrive, Evict, Run, Close, Drain}
-use Rattle.calls.specs.declared.types.Why.{Why}
 use Rattle.calls.specs.declared.types.Why.the-variants.{BadSheet}
 use Rattle.calls.specs.declared.types.Answer.{Answer}
 use Rattle.calls.specs.declared.types.Answer.the-variants.{Opened, Taken, Flushed, Ran, Shut, More, Done, Refused}
@@ -32,6 +31,7 @@ pub record After : Type 0 where
   pub world : World
   pub out : List ℕ
 
+-- the three together
 abbrev pub after : Answer → World → List ℕ → After
 after n w o = record { answer = n; world = w; out = o }
 
@@ -69,6 +69,7 @@ drains w o = let t = seenFrom A w in let room = roomOf (length o) in let ps = ta
     (move (cond (ltb room (length (owed w))) (past t (w .session .next) ps) (t .a .count * t .b .count)) w)
     (putFrom 0 (told A t ps) o)
 
+-- each call that is not refused
 unfoldable pub effect : World → List ℕ → Call → After
 effect w o (Arrive s m) = arrives s (itemOf m) w o
 effect w o (Evict s q) = evicts s q w o
@@ -83,6 +84,7 @@ abbrev pub settle : Verdict → World → List ℕ → After → After
 settle Good w o t = t
 settle (No y) w o t = after (Refused y) w o
 
+-- the first check that fails refuses the call; else it does what its rule says
 unfoldable pub afterCall : World → List ℕ → Call → After
 afterCall w o c = settle (verdict (checks w c (roomOf (length o)))) w o (effect w o c)
 

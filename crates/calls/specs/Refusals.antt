@@ -30,10 +30,12 @@ use Rattle.calls.specs.declared.arriving.Room.the-variants.{Enough, Flus
 
 -- ---- checks in order
 
+-- a test, and why the call is refused where it holds
 pub record Check : Type 0 where
   pub fails : Bool
   pub why : Why
 
+-- such a check
 abbrev pub check : Bool → Why → Check
 check u y = record { fails = u; why = y }
 
@@ -44,6 +46,7 @@ verdict (c ∷ cs) = cond (c .fails) (No (c .why)) (verdict cs)
 
 -- ---- number 1, BadSheet
 
+-- low to high, both included
 abbrev pub between : ℕ → ℕ → ℕ → Bool
 between low high n = leb low n && leb n high
 
@@ -52,6 +55,7 @@ abbrev pub sizeTests : ℕ → ℕ → ℕ → ℕ → ℕ → ℕ → List Bool
 sizeTests p m n a b probe =
     between 1 16 p ∷ between 1 1024 m ∷ between 1 4096 n ∷ leb (rowsNeed n) a ∷ leb (rowsNeed n) b ∷ leb (probeNeed p) probe ∷ []
 
+-- all of these
 abbrev pub sizesFit : ℕ → ℕ → ℕ → ℕ → ℕ → ℕ → Bool
 sizesFit p m n a b probe = allOf (sizeTests p m n a b probe)
 
@@ -59,6 +63,7 @@ sizesFit p m n a b probe = allOf (sizeTests p m n a b probe)
 abbrev pub numberTests : ℕ → ℕ → ℕ → ℕ → ℕ → List Bool
 numberTests n clock rowsA rowsB next = leb rowsA n ∷ leb rowsB n ∷ leb clock 16384 ∷ leb next (rowsA * rowsB) ∷ []
 
+-- all of these
 abbrev pub numbersFit : ℕ → ℕ → ℕ → ℕ → ℕ → Bool
 numbersFit n clock rowsA rowsB next = allOf (numberTests n clock rowsA rowsB next)
 
@@ -67,6 +72,7 @@ abbrev pub countsFit : List ℕ → ℕ → Bool
 countsFit counts zero = true
 countsFit counts (suc n) = countsFit counts n && leb (getD counts n 0) 32
 
+-- number 1 of every call on a record
 unfoldable pub sessionFits : Session → ℕ → ℕ → ℕ → Bool
 sessionFits t a b probe =
     sizesFit (t .parts) (t .slots) (t .limit) a b probe
@@ -78,6 +84,7 @@ sessionFits t a b probe =
 abbrev pub full : World → Bool
 full w = leb (w .session .slots) (memoryRows (rowsOf w A) (countOf w A) + memoryRows (rowsOf w B) (countOf w B))
 
+-- the portion to flush
 abbrev pub victimOf : World → Largest
 victimOf w = victim (w .session .parts) (rowsOf w A) (countOf w A) (rowsOf w B) (countOf w B)
 
@@ -85,6 +92,7 @@ victimOf w = victim (w .session .parts) (rowsOf w A) (countOf w A) (rowsOf w B) 
 unfoldable pub roomFor : World → Room
 roomFor w = cond (full w) (Flush (victimOf w .source) (victimOf w .part)) Enough
 
+-- "flush one portion first", where that is needed
 abbrev pub makeRoom : Room → World → World
 makeRoom Enough w = w
 makeRoom (Flush s q) w = flush s q w
@@ -99,11 +107,13 @@ arrived s item w = arrivalPairs (countOf w s) item (rowsOf w (other s)) (countOf
 abbrev pub idle : World → Source → ℕ → Bool
 idle w s q = eqb (tally (λ i. spooled (w .session .parts) q (rowsOf w s i)) (countOf w s)) 0 || probedAt (w .session .clock) (sideOf w s .list q)
 
+-- the pairs of a run
 abbrev pub ran : Source → ℕ → World → List Pair
 ran s q w = wantedPairs (Portion q) (seenFrom s w)
 
 -- ---- the table, read from the top, for each call with the room of its output
 
+-- both sources are closed
 abbrev pub bothClosed : Session → Bool
 bothClosed t = t .a .closed && t .b .closed
 
@@ -120,9 +130,11 @@ rowChecks t s m a b probe =
     ∷ check (leb (t .limit) (pick s (t .a) (t .b) .rows)) SheetFull
     ∷ []
 
+-- a close: numbers 1 and 4
 abbrev pub closeChecks : Session → Source → ℕ → ℕ → ℕ → List Check
 closeChecks t s a b probe = check (not (sessionFits t a b probe)) BadSheet ∷ check (pick s (t .a) (t .b) .closed) Closed ∷ []
 
+-- a drain: numbers 1, 7 and 8
 abbrev pub drainChecks : Session → ℕ → ℕ → ℕ → ℕ → List Check
 drainChecks t room a b probe =
     check (not (sessionFits t a b probe)) BadSheet ∷ check (not (bothClosed t)) StillOpen ∷ check (eqb room 0) (RoomShort 1) ∷ []
@@ -135,6 +147,7 @@ roomCheck room n = check (ltb room n) (RoomShort n)
 abbrev pub runChecks : World → Source → ℕ → ℕ → List Check
 runChecks w s q room = cond (idle w s q) [] (check (leb 32 (length (sideOf w s .list q))) ListFull ∷ roomCheck room (length (ran s q w)) ∷ [])
 
+-- every call, with the room of its output
 unfoldable pub checks : World → Call → ℕ → List Check
 checks w (Arrive s m) room =
     rowChecks (w .session) s m (length (w .a)) (length (w .b)) (length (w .probe))

@@ -31,6 +31,7 @@ use Rattle.calls.specs.declared.arriving.Room.the-variants.{Enough, Flus
 use Rattle.calls.specs.declared.arriving.Admission.{Admission}
 use Rattle.calls.specs.declared.arriving.Admission.the-variants as admission
 
+-- a record and sheets
 abbrev pub world : Session → List ℕ → List ℕ → List ℕ → World
 world t a b probe = record { session = t; a = a; b = b; probe = probe }
 
@@ -47,6 +48,7 @@ pub record Sizes (p m n a b probe : ℕ) : Type 0 where
   pub b-long : rowsNeed n ≤ b
   pub probe-long : probeNeed p ≤ probe
 
+-- of the sizes, the numbers and the counts
 pub record Fits (t : Session) (a b probe : ℕ) : Type 0 where
   pub sizes : Sizes (t .parts) (t .slots) (t .limit) a b probe
   pub a-few : t .a .rows ≤ t .limit
@@ -72,10 +74,12 @@ pub record Clears (s : Source) (q : ℕ) (t : Session) (a b : List ℕ) (t′ : 
 
 -- ---- an arrival
 
+-- the item of a message that passed the checks before the pairs, or the refusal
 abbrev pub admitted : Verdict → Item → Admission
 admitted Good item = admission.Take item
 admitted (No y) item = admission.Deny y
 
+-- one and the same source
 abbrev pub same : Source → Source → Bool
 same A A = true
 same A B = false
@@ -95,6 +99,7 @@ pub record Space (t : Session) (s : Source) (a b : ℕ) : Type 0 where
 
 -- ---- a run, seen from its source: own is the sheet of the source, facing that of the other
 
+-- a record and sheets, the source's own first
 abbrev pub worldFrom : Source → Session → List ℕ → List ℕ → List ℕ → World
 worldFrom s t own facing probe = world t (pick s own facing) (pick s facing own) probe
 

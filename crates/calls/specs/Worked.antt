@@ -30,6 +30,7 @@ pub record Played : Type 0 where
   pub answers : List Answer
   pub pairs : List Told
 
+-- one answer more
 unfoldable pub play : After → Played → Played
 play r p = record { world = r .world; answers = p .answers ++ (r .answer ∷ []); pairs = p .pairs ++ pairsAt (r .out) 0 (pairsOf (r .answer)) }
 
@@ -37,6 +38,7 @@ play r p = record { world = r .world; answers = p .answers ++ (r .answer ∷ [])
 unfoldable pub ask : ℕ → Call → Played → Played
 ask n c p = play (afterCall (p .world) (replicate (3 * n) 0) c) p
 
+-- car 7 on a lap
 abbrev pub passing : ℕ → Message
 passing lap = record { car = 7; lap = lap }
 
@@ -48,6 +50,7 @@ started = record { world = record { session = fresh 2 3 8; a = replicate 24 0; b
 abbrev pub told : ℕ → ℕ → ℕ → Told
 told a b lap = record { a = a; b = b; key = 7000 + lap }
 
+-- a row of car 7
 abbrev pub row : ℕ → ℕ → ℕ → Row
 row lap ats dts = record { item = record { key = 7000 + lap }; ats = ats; dts = dts }
 
@@ -61,6 +64,7 @@ fed =
 unfoldable pub run : Played → Played
 run p = ask 4 (Arrive A (passing 12)) (ask 4 (Evict B 0) (ask 4 (Run A 0) (ask 4 (Run A 0) p)))
 
+-- CLOSE,A / CLOSE,B / DRAIN,1 / DRAIN,1
 unfoldable pub drained : Played → Played
 drained p = ask 1 Drain (ask 1 Drain (ask 4 (Close B) (ask 4 (Close A) p)))
 
@@ -86,11 +90,13 @@ stage clock a b counts entry rowsA answers pairs = record {
   pairs = pairs;
 }
 
+-- after the five rows
 abbrev pub fedStage : Played
 fedStage =
     stage 7 (7012 ∷ 1 ∷ 4 ∷ 7013 ∷ 3 ∷ 6 ∷ 0 ∷ 0 ∷ 0 ∷ []) (7012 ∷ 2 ∷ 0 ∷ 7013 ∷ 5 ∷ 0 ∷ 7012 ∷ 7 ∷ 0 ∷ []) (replicate 32 0) (0 ∷ 0 ∷ []) 2
     (Taken 0 ∷ Taken 1 ∷ Taken 0 ∷ Taken 1 ∷ Taken 0 ∷ []) (told 0 0 12 ∷ told 1 1 13 ∷ [])
 
+-- after the run, the flush and the sixth row
 abbrev pub runStage : Played
 runStage =
     stage 10 (7012 ∷ 1 ∷ 4 ∷ 7013 ∷ 3 ∷ 6 ∷ 7012 ∷ 10 ∷ 0 ∷ []) (7012 ∷ 2 ∷ 8 ∷ 7013 ∷ 5 ∷ 0 ∷ 7012 ∷ 7 ∷ 9 ∷ []) (1 ∷ replicate 31 0) (4 ∷ 7 ∷ []) 3

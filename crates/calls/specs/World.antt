@@ -15,6 +15,7 @@ use Rattle.sheets.specs.Pairs.{Side, Table}
 use Rattle.calls.specs.declared.types.Feed.{Feed}
 use Rattle.calls.specs.declared.types.Session.{Session}
 
+-- all that a call is given but its arguments and its output
 pub record World : Type 0 where
   pub session : Session
   pub a : List ℕ
@@ -23,19 +24,24 @@ pub record World : Type 0 where
 
 -- ---- one source of the two
 
+-- x for A, y for B
 abbrev pub pick : {X : Type 0} → Source → X → X → X
 pick A x y = x
 pick B x y = y
 
+-- its part of the record
 abbrev pub feedOf : World → Source → Feed
 feedOf w s = pick s (w .session .a) (w .session .b)
 
+-- its row sheet
 abbrev pub sheetOf : World → Source → List ℕ
 sheetOf w s = pick s (w .a) (w .b)
 
+-- its rows accepted
 abbrev pub countOf : World → Source → ℕ
 countOf w s = feedOf w s .rows
 
+-- whether it is closed
 abbrev pub closedOf : World → Source → Bool
 closedOf w s = feedOf w s .closed
 
@@ -43,6 +49,7 @@ closedOf w s = feedOf w s .closed
 abbrev pub rowsOf : World → Source → ℕ → Row
 rowsOf w s = rowAt (sheetOf w s)
 
+-- all that the sheets hold of it
 abbrev pub sideOf : World → Source → Side
 sideOf w s = record { count = countOf w s; row = rowsOf w s; list = listOf (w .session .parts) (w .session .counts) (w .probe) s }
 
@@ -52,16 +59,20 @@ seenFrom s w = record { parts = w .session .parts; a = sideOf w s; b = sideOf w 
 
 -- ---- a field of the record changed
 
+-- the clock
 abbrev pub withClock : ℕ → Session → Session
 withClock c t = record { parts = t .parts; slots = t .slots; limit = t .limit; clock = c; a = t .a; b = t .b; counts = t .counts; next = t .next }
 
+-- the part of one source
 abbrev pub withFeed : Source → Feed → Session → Session
 withFeed A f t = record { parts = t .parts; slots = t .slots; limit = t .limit; clock = t .clock; a = f; b = t .b; counts = t .counts; next = t .next }
 withFeed B f t = record { parts = t .parts; slots = t .slots; limit = t .limit; clock = t .clock; a = t .a; b = f; counts = t .counts; next = t .next }
 
+-- the entry counts
 abbrev pub withCounts : List ℕ → Session → Session
 withCounts l t = record { parts = t .parts; slots = t .slots; limit = t .limit; clock = t .clock; a = t .a; b = t .b; counts = l; next = t .next }
 
+-- the drain position
 abbrev pub withNext : ℕ → Session → Session
 withNext k t = record { parts = t .parts; slots = t .slots; limit = t .limit; clock = t .clock; a = t .a; b = t .b; counts = t .counts; next = k }
 

@@ -39,9 +39,11 @@ decimal n = digitsUp numberMost n
 
 -- ---- fixed words
 
+-- what a line ends with
 abbrev pub LF : List ℕ
 LF = 10 ∷ []
 
+-- what parts its fields
 abbrev pub SPACE : List ℕ
 SPACE = 32 ∷ []
 

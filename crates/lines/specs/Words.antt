@@ -11,24 +11,31 @@ use Rattle.lines.specs.declared.words.Word.the-variants as word
 
 -- ---- the words, each of the letters of its name
 
+-- "A"
 abbrev pub A : List ℕ
 A = 65 ∷ []
 
+-- "B"
 abbrev pub B : List ℕ
 B = 66 ∷ []
 
+-- "START"
 abbrev pub START : List ℕ
 START = 83 ∷ 84 ∷ 65 ∷ 82 ∷ 84 ∷ []
 
+-- "EVICT"
 abbrev pub EVICT : List ℕ
 EVICT = 69 ∷ 86 ∷ 73 ∷ 67 ∷ 84 ∷ []
 
+-- "RUN"
 abbrev pub RUN : List ℕ
 RUN = 82 ∷ 85 ∷ 78 ∷ []
 
+-- "CLOSE"
 abbrev pub CLOSE : List ℕ
 CLOSE = 67 ∷ 76 ∷ 79 ∷ 83 ∷ 69 ∷ []
 
+-- "DRAIN"
 abbrev pub DRAIN : List ℕ
 DRAIN = 68 ∷ 82 ∷ 65 ∷ 73 ∷ 78 ∷ []
 

@@ -1,10 +1,10 @@
 -- The turns of the loops that walk the grid of pairs: what is left from the next spot on is what was left, less what was written.
 -- Assumes nothing.
 use mathlib.Core.Path.{_≡_, refl, sym, ap, _∙_}
-use mathlib.Core.Bool.{Bool, true, false, cond}
-use mathlib.Core.List.{List, [], _∷_, _++_}
+use mathlib.Core.Bool.{true, false, cond}
+use mathlib.Core.List.{List, [], _∷_}
 use Prim.Native.Nat.{ℕ, zero, suc, _+_, _*_, _-_, _≤_, _<_}
-use native.Mathlib.Nat.{sub-zero, suc-mul, mul-zero, le-trans, mul-le-mul-left, mul-le-mul-right}
+use native.Mathlib.Nat.{sub-zero, suc-mul, mul-zero, le-trans, mul-le-mul-right}
 use native.Mathlib.Omega.{arith}
 use native.Mathlib.Numerals.{add-one}
 use lib.Dec.{ltb}
@@ -12,14 +12,11 @@ use lib.ListN.{length, length-append, take}
 use lib.Seq.{take-nil, take-all, length-take-le}
 use borrow.Author.Tests.{lt-ltb, le-ltb}
 use Rattle.stamps.specs.declared.Source.{Source}
-use Rattle.stamps.specs.declared.Item.{Item}
-use Rattle.stamps.specs.Counting.{keep}
-use Rattle.sheets.specs.Layout.{Told, pairsNeed, putPair}
-use Rattle.sheets.specs.Pairs.{Table, Pair, across, down, every, position, wanted, wantedPairs, tell, told, putFrom, NextIs, leftRows, leftFrom, SpotIs, past, Writes}
+use Rattle.sheets.specs.Layout.{pairsNeed, putPair}
+use Rattle.sheets.specs.Pairs.{Table, Pair, down, wanted, wantedPairs, tell, told, putFrom, NextIs, leftRows, leftFrom, SpotIs, past, Writes}
 use Rattle.sheets.specs.declared.pairs.Scope.{Scope}
-use Rattle.sheets.specs.declared.pairs.Written.{Written}
 use Rattle.sheets.proofs.Laws.{length-keep, length-across, length-down, product-few}
-use Rattle.sheets.proofs.PairTurns.{Handing, handing-first, handing-next, handing-room, handing-end}
+use Rattle.sheets.proofs.PairTurns.{Handing, handing-first, handing-next, handing-end}
 
 down-left : (i k m : ℕ) → down i k m ≡ leftRows m i 0 k
 down-left i zero m = refl

@@ -1,33 +1,31 @@
 -- The turns of the loops that look for pairs and write them: each speaks of what is left, and the next spot is where as much is left.
 -- Assumes nothing.
 use mathlib.Core.Path.{_≡_, refl, sym, ap, ap₂, _∙_}
-use mathlib.Core.Bool.{Bool, true, false, cond, not, _&&_, and-false}
-use mathlib.Core.List.{List, [], _∷_, _++_}
-use Prim.Native.Nat.{ℕ, zero, suc, _+_, _*_, _-_, _≤_, _<_}
-use native.Mathlib.Nat.{add-zero, sub-zero}
+use mathlib.Core.Bool.{Bool, true, false, not, _&&_, and-false}
+use mathlib.Core.List.{List, [], _∷_}
+use Prim.Native.Nat.{ℕ, zero, suc, _+_, _-_, _≤_, _<_}
+use native.Mathlib.Nat.{sub-zero}
 use native.Mathlib.Omega.{arith}
 use native.Mathlib.Numerals.{add-one}
-use lib.Dec.{ltb, eqb}
-use lib.ListN.{length, take, getD}
+use lib.Dec.{ltb}
+use lib.ListN.{length, getD}
 use borrow.Author.Count.{below-more}
 use borrow.Author.Tests.{lt-ltb}
 use Rattle.stamps.specs.declared.Source.{Source}
-use Rattle.stamps.specs.declared.Source.the-variants.{A, B}
 use Rattle.stamps.specs.declared.Item.{Item}
 use Rattle.stamps.specs.declared.Row.{Row}
 use Rattle.stamps.specs.declared.Entry.{Entry}
 use Rattle.stamps.specs.Counting.{tally, keep}
-use Rattle.stamps.specs.Counting.Laws.{tests, and-cong, keep-append, tally-cong}
+use Rattle.stamps.specs.Counting.Laws.{tests, and-cong, tally-cong}
 use Rattle.stamps.specs.Keys.{itemsMatch, partOf}
 use Rattle.stamps.specs.Keys.Laws.{match-part}
 use Rattle.stamps.specs.Sources.{other}
-use Rattle.stamps.specs.Stamps.{inMemory, doneBefore}
-use Rattle.stamps.specs.Stamps.Laws.{stamp}
-use Rattle.sheets.specs.Layout.{pairsNeed, rowAt, listNo, listNeed, Told, putPair}
+use Rattle.stamps.specs.Stamps.{doneBefore}
+use Rattle.sheets.specs.Layout.{pairsNeed, rowAt, listNo, Told, putPair}
 use Rattle.sheets.specs.Layout.Laws.{length-putPair}
-use Rattle.sheets.specs.Rows.{hot, portionRows, flushed}
+use Rattle.sheets.specs.Rows.{flushed}
 use Rattle.sheets.proofs.Laws.{length-tellAll, met-gone, met-kept}
-use Rattle.sheets.specs.Pairs.{Pair, across, down, met, arrivalPairs, tell, tellAll, putFrom, takes, meets, due, wanted, tableOf, Ready, NextIs}
+use Rattle.sheets.specs.Pairs.{Pair, across, met, arrivalPairs, tell, tellAll, putFrom, takes, meets, due, wanted, tableOf, NextIs}
 use Rattle.sheets.specs.Lists.{entries, listOf}
 use Rattle.sheets.specs.declared.lists.ProbeList.{ProbeList}
 use Rattle.sheets.specs.declared.pairs.Job.{Job}

@@ -1,13 +1,12 @@
 -- The pairs from a position on are those left from its row and column on: the rows before it fall away, and its own is cut.
 -- Assumes nothing.
 use mathlib.Core.Path.{_≡_, refl, sym, ap, ap₂, _∙_}
-use mathlib.Core.Bool.{Bool, true, false, cond}
-use mathlib.Core.List.{List, [], _∷_, _++_}
+use mathlib.Core.Bool.{Bool}
+use mathlib.Core.List.{List, [], _++_}
 use Prim.Native.Nat.{ℕ, zero, suc, _+_, _*_, _-_, _/_, _%_, _≤_, _<_}
 use native.Mathlib.Nat.{le-trans, zero-add, add-zero, suc-mul, mul-comm, mul-le-mul-right, div-add-mod', mod-lt, div-le-of-le-mul, pos-of-ne-zero}
 use native.Mathlib.Omega.{arith}
 use lib.Dec.{leb}
-use lib.ListN.{length, take}
 use borrow.Author.Tests.{le-leb, lt-leb}
 use Rattle.stamps.specs.Counting.{keep}
 use Rattle.stamps.specs.Counting.Laws.{keep-append, keep-comm}

@@ -13,20 +13,25 @@ pub mod Laws
 
 -- ---- rows: "three words a row (key, ATS, DTS), row r at word 3r"
 
+-- the words that n rows take
 abbrev pub rowsNeed : ℕ → ℕ
 rowsNeed n = 3 * n
 
+-- row r of a sheet
 unfoldable pub rowAt : List ℕ → ℕ → Row
 rowAt l r = record { item = record { key = getD l (3 * r) 0 }; ats = getD l (3 * r + 1) 0; dts = getD l (3 * r + 2) 0 }
 
+-- its words, in their order
 abbrev pub rowWords : Row → List ℕ
 rowWords x = x .item .key ∷ x .ats ∷ x .dts ∷ []
 
+-- row r written
 unfoldable pub putRow : ℕ → Row → List ℕ → List ℕ
 putRow r x l = sets l (3 * r) (rowWords x)
 
 -- ---- entries: "Entry e of source s (A is 0, B is 1), partition p, is at word 64(sP + p) + 2e: DTS-last, then ProbeTS"
 
+-- the words that the lists of P partitions take, for both sources
 abbrev pub probeNeed : ℕ → ℕ
 probeNeed parts = 128 * parts
 
@@ -39,17 +44,21 @@ abbrev pub listNo : ℕ → Source → ℕ → ℕ
 listNo parts A p = p
 listNo parts B p = parts + p
 
+-- entry e of list k
 unfoldable pub entryAt : List ℕ → ℕ → ℕ → Entry
 entryAt l k e = record { last = getD l (64 * k + 2 * e) 0; probe = getD l (64 * k + 2 * e + 1) 0 }
 
+-- its words, in their order
 abbrev pub entryWords : Entry → List ℕ
 entryWords x = x .last ∷ x .probe ∷ []
 
+-- entry e of list k written
 unfoldable pub putEntry : ℕ → ℕ → Entry → List ℕ → List ℕ
 putEntry k e x l = sets l (64 * k + 2 * e) (entryWords x)
 
 -- ---- pairs: "A pair is (A row number, B row number, key)", "three words a pair"
 
+-- the words that n pairs take
 abbrev pub pairsNeed : ℕ → ℕ
 pairsNeed n = 3 * n
 
@@ -57,11 +66,14 @@ pairsNeed n = 3 * n
 abbrev pub roomOf : ℕ → ℕ
 roomOf words = words / 3
 
+-- pair number w of an output
 unfoldable pub pairAt : List ℕ → ℕ → Told
 pairAt o w = record { a = getD o (3 * w) 0; b = getD o (3 * w + 1) 0; key = getD o (3 * w + 2) 0 }
 
+-- its words, in their order
 abbrev pub pairWords : Told → List ℕ
 pairWords x = x .a ∷ x .b ∷ x .key ∷ []
 
+-- pair number w written
 unfoldable pub putPair : ℕ → Told → List ℕ → List ℕ
 putPair w x o = sets o (3 * w) (pairWords x)

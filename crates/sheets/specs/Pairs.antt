@@ -31,6 +31,7 @@ pub record Side : Type 0 where
   pub row : ℕ → Row
   pub list : ℕ → List Entry
 
+-- of both, and P
 pub record Table : Type 0 where
   pub parts : ℕ
   pub a : Side
@@ -38,6 +39,7 @@ pub record Table : Type 0 where
 
 -- ---- pairs, in document 01's order
 
+-- a row of A and a row of B, by their numbers
 pub record Pair : Type 0 where
   pub a : ℕ
   pub b : ℕ
@@ -52,6 +54,7 @@ abbrev pub down : ℕ → ℕ → ℕ → List Pair
 down i zero m = []
 down i (suc n) m = across i 0 m ++ down (suc i) n m
 
+-- all pairs, in that order
 abbrev pub every : Table → List Pair
 every t = down 0 (t .a .count) (t .b .count)
 
@@ -61,20 +64,17 @@ position t p = p .a * t .b .count + p .b
 
 -- ---- what is said of a pair
 
+-- its row of A
 abbrev pub rowA : Table → Pair → Row
 rowA t p = t .a .row (p .a)
 
+-- its row of B
 abbrev pub rowB : Table → Pair → Row
 rowB t p = t .b .row (p .b)
 
-abbrev pub matches : Table → Pair → Bool
-matches t p = itemsMatch (rowA t p .item) (rowB t p .item)
-
-abbrev pub done : Table → Pair → Bool
-done t p = doneBefore (t .a .list (partOf (t .parts) (rowA t p .item))) (t .b .list (partOf (t .parts) (rowB t p .item))) (rowA t p) (rowB t p)
-
 -- ---- an arrival at A: "the new row with each memory row of the other source that matches, ascending"
 
+-- a row that is in memory and matches
 abbrev pub met : Item → Row → Bool
 met item r = itemsMatch item (r .item) && inMemory r
 
@@ -84,11 +84,12 @@ arrivalPairs i item g m = keep (λ p. met item (g (p .b))) (across i 0 m)
 
 -- ---- runs and drains
 
--- the rows of A that are looked at: all, or the spooled rows of a portion; and the rows of B across from them: all, or those in memory
+-- the rows of A that are looked at: all, or the spooled rows of a portion
 abbrev pub takes : Scope → ℕ → Row → Bool
 takes All parts r = true
 takes (Portion q) parts r = spooled parts q r
 
+-- the rows of B across from them: all, or those in memory
 abbrev pub meets : Scope → Row → Bool
 meets All r = true
 meets (Portion q) r = inMemory r
@@ -97,6 +98,7 @@ meets (Portion q) r = inMemory r
 abbrev pub due : Scope → List Entry → List Entry → Row → Row → Bool
 due scope ex ey x y = itemsMatch (x .item) (y .item) && (meets scope y && not (doneBefore ex ey x y))
 
+-- a pair that a run or a drain writes
 unfoldable pub wanted : Scope → Table → Pair → Bool
 wanted scope t p =
     takes scope (t .parts) (rowA t p)
@@ -117,6 +119,7 @@ abbrev pub tell : Source → Pair → Item → Item → Told
 tell A p x y = record { a = p .a; b = p .b; key = x .key }
 tell B p x y = record { a = p .b; b = p .a; key = y .key }
 
+-- and of a list of pairs
 abbrev pub tellAll : Source → (ℕ → Item) → (ℕ → Item) → List Pair → List Told
 tellAll s x y [] = []
 tellAll s x y (p ∷ ps) = tell s p (x (p .a)) (y (p .b)) ∷ tellAll s x y ps
@@ -168,6 +171,7 @@ abbrev pub leftRows : ℕ → ℕ → ℕ → ℕ → List Pair
 leftRows m i j zero = []
 leftRows m i j (suc k) = across i j (m - j) ++ down (suc i) k m
 
+-- of those, the wanted ones
 abbrev pub leftFrom : Scope → Table → ℕ → ℕ → List Pair
 leftFrom scope t i j = keep (wanted scope t) (leftRows (t .b .count) i j (t .a .count - i))
 

@@ -17,17 +17,19 @@ use Rattle.sheets.specs.declared.rows.Largest.{Largest}
 
 -- ---- memory rows and spooled rows
 
--- a memory row of partition q; a spooled row of it
+-- a memory row of partition q
 abbrev pub hot : ℕ → ℕ → Row → Bool
 hot parts q r = inMemory r && eqb (partOf parts (r .item)) q
 
+-- a spooled row of it
 abbrev pub spooled : ℕ → ℕ → Row → Bool
 spooled parts q r = not (inMemory r) && eqb (partOf parts (r .item)) q
 
--- how many rows are in memory; how many of a portion are
+-- how many rows are in memory
 abbrev pub memoryRows : (ℕ → Row) → ℕ → ℕ
 memoryRows f n = tally (λ i. inMemory (f i)) n
 
+-- how many rows of a portion are in memory
 abbrev pub portionRows : ℕ → ℕ → (ℕ → Row) → ℕ → ℕ
 portionRows parts q f n = tally (λ i. hot parts q (f i)) n
 
@@ -57,6 +59,7 @@ abbrev pub largestOf : (ℕ → ℕ) → Source → ℕ → Largest → Largest
 largestOf size s zero x = x
 largestOf size s (suc q) x = larger (largestOf size s q x) (record { size = size q; source = s; part = q })
 
+-- among all portions, A's before B's
 unfoldable pub victim : ℕ → (ℕ → Row) → ℕ → (ℕ → Row) → ℕ → Largest
 victim parts f n g m =
     largestOf (λ q. portionRows parts q g m) B parts

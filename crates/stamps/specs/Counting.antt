@@ -5,6 +5,7 @@ use Prim.Native.Nat.{ℕ, zero, suc, _+_, max}
 use lib.Dec.{ltb}
 pub mod Laws
 
+-- 1 for a test that holds
 abbrev pub bit : Bool → ℕ
 bit true = 1
 bit false = 0

@@ -2,6 +2,7 @@
 use Rattle.stamps.specs.declared.Source.{Source}
 use Rattle.stamps.specs.declared.Source.the-variants.{A, B}
 
+-- the source that faces a source
 abbrev pub other : Source → Source
 other A = B
 other B = A

@@ -1,6 +1,6 @@
 -- The twelve small sums of document 01: one list, and a single theorem about the list.
 -- Proved by opening the definitions and computing. Assumes nothing.
-use mathlib.Core.Path.{_≡_, refl}
+use mathlib.Core.Path.{_≡_}
 use mathlib.Core.Bool.{Bool, true, not, _&&_}
 use mathlib.Core.List.{List, [], _∷_}
 use Prim.Native.Nat.{ℕ}
@@ -17,9 +17,11 @@ use Rattle.stamps.specs.Stamps.Meaning.{alive-is, presentAt-is, together
 abbrev pub row : ℕ → ℕ → Row
 row ats dts = record { item = record { key = 0 }; ats = ats; dts = dts }
 
+-- a message of this car on this lap
 abbrev pub message : ℕ → ℕ → Message
 message car lap = record { car = car; lap = lap }
 
+-- the twelve, in document 01's order
 unfoldable pub sums : List Bool
 sums =
     together (row 1 4) (row 2 0)

@@ -1,6 +1,6 @@
 -- What is written in words is read back, and the other words stay. By where each word stands; omega settles which words differ.
 -- Assumes nothing.
-use mathlib.Core.Path.{_≡_, refl, sym, ap, _∙_}
+use mathlib.Core.Path.{_≡_, refl, sym, _∙_}
 use mathlib.Core.Logic.{_≢_}
 use mathlib.Core.List.{List, [], _∷_}
 use Prim.Native.Nat.{ℕ, zero, suc, _+_, _*_, _≤_, _<_}
@@ -10,7 +10,6 @@ use lib.ListN.{length, getD, set, length-set}
 use lib.Seq.{sets, length-sets, getD-set-same, getD-set-other, set-getD}
 use Rattle.stamps.specs.declared.Row.{Row}
 use Rattle.stamps.specs.declared.Entry.{Entry}
-use Rattle.stamps.specs.Stamps.Laws.{stamp}
 use Rattle.sheets.specs.Layout.{rowsNeed, rowAt, rowWords, putRow, listNeed, entryAt, entryWords, putEntry, Told, pairsNeed, pairAt, pairWords, putPair}
 
 -- ---- a block of words

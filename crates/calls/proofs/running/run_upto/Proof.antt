@@ -1,7 +1,6 @@
 -- `calls::running::run_upto` meets its contract: the pairs are counted, then written, and the entry added; or they do not fit.
 -- Assumes nothing.
 use borrow.Author.Needs.{needs}
-use mathlib.Core.Path.{sym, ap, _∙_}
 use native.Mathlib.Omega.{arith}
 use Rattle.sheets.specs.declared.pairs.Scope.the-variants.{Portion}
 use Rattle.calls.proofs.Runs.{fits-ready, run-few, run-short, run-done}

@@ -1,8 +1,7 @@
 -- `sheets::pairs::next_facing` meets its contract: a row that is not looked at has none; else the lists are those of its partition.
 -- Assumes nothing.
 use borrow.Author.Needs.{needs}
-use mathlib.Core.Path.{sym, ap, _∙_}
-use native.Mathlib.Omega.{arith}
+use mathlib.Core.Path.{sym, _∙_}
 use Rattle.sheets.proofs.PairTurns.{next-left-out, next-taken}
 use Rattle.sheets.proofs.Laws.{list-fits}
 use Rattle.sheets.proofs.pairs.next_facing.Statement.{statement}

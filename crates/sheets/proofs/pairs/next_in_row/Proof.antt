@@ -2,7 +2,7 @@
 -- Assumes nothing.
 use borrow.Author.Needs.{needs}
 use Prim.Native.Nat.{_-_}
-use mathlib.Core.Path.{sym, ap, _∙_}
+use mathlib.Core.Path.{sym, _∙_}
 use mathlib.Core.Bool.{_&&_, not}
 use Rattle.stamps.specs.Keys.{itemsMatch}
 use Rattle.stamps.specs.Stamps.{doneBefore}

@@ -1,0 +1,204 @@
+/* The call program: performs one call on a record and sheets given as numbers
+ * on standard input, and prints the answer, the record and every word. */
+#include <stdio.h>
+#include <stdlib.h>
+
+#include "box.h"
+
+enum {
+    MOST_ROW_WORDS = WORDS_A_ROW * MOST_ROWS,
+    MOST_PROBE_WORDS = WORDS_A_LIST * LISTS,
+    MOST_OUTPUT_WORDS = WORDS_A_PAIR * 512,
+    MOST_DIGITS = 10,
+    SHEETS = 4
+};
+
+typedef enum { OPEN, ARRIVE, EVICT, RUN, CLOSE, DRAIN } call_kind;
+
+typedef struct {
+    uint32_t kind;
+    uint32_t arguments[3];
+    session_record record;
+    lent_sheets sheets;
+} call;
+
+/* ---- reading ---- */
+
+static bool is_blank(int byte)
+{
+    return byte == ' ' || byte == '\t' || byte == '\n';
+}
+
+/* False at the end of input and for a token that is not a 32-bit number of 1
+ * to 10 digits. */
+static bool read_number(uint32_t *number)
+{
+    int byte = getchar();
+    while (is_blank(byte))
+        byte = getchar();
+    uint64_t value = 0;
+    int digits = 0;
+    for (; byte != EOF && !is_blank(byte); byte = getchar()) {
+        if (byte < '0' || byte > '9' || digits == MOST_DIGITS)
+            return false;
+        value = value * 10 + (uint64_t)(byte - '0');
+        digits++;
+    }
+    *number = (uint32_t)value;
+    return digits > 0 && value <= UINT32_MAX;
+}
+
+static bool read_numbers(uint32_t *numbers, uint32_t count)
+{
+    for (uint32_t i = 0; i < count; i++)
+        if (!read_number(&numbers[i]))
+            return false;
+    return true;
+}
+
+static bool read_up_to(uint32_t *number, uint32_t most)
+{
+    return read_number(number) && *number <= most;
+}
+
+static bool read_flag(bool *flag)
+{
+    uint32_t number;
+    if (!read_up_to(&number, 1))
+        return false;
+    *flag = number == 1;
+    return true;
+}
+
+static bool names_source(uint32_t kind)
+{
+    return kind != OPEN && kind != DRAIN;
+}
+
+static bool read_call_itself(call *asked)
+{
+    if (!read_up_to(&asked->kind, DRAIN) || !read_numbers(asked->arguments, 3))
+        return false;
+    return !names_source(asked->kind) || asked->arguments[0] <= SOURCE_B;
+}
+
+static bool read_record(session_record *record)
+{
+    return read_number(&record->partitions)
+        && read_number(&record->memory)
+        && read_number(&record->most_rows)
+        && read_number(&record->clock)
+        && read_numbers(record->rows, SOURCES)
+        && read_flag(&record->closed[SOURCE_A])
+        && read_flag(&record->closed[SOURCE_B])
+        && read_numbers(record->entries, LISTS)
+        && read_number(&record->position);
+}
+
+/* Each sheet gets exactly the words it has, so that a checking build sees any
+ * step beyond them. */
+static bool read_sheets(lent_sheets *sheets)
+{
+    sheet *order[SHEETS] = { &sheets->rows[SOURCE_A], &sheets->rows[SOURCE_B],
+                             &sheets->probe, &sheets->output };
+    const uint32_t most[SHEETS] = { MOST_ROW_WORDS, MOST_ROW_WORDS,
+                                    MOST_PROBE_WORDS, MOST_OUTPUT_WORDS };
+    for (int i = 0; i < SHEETS; i++)
+        if (!read_up_to(&order[i]->length, most[i]))
+            return false;
+    for (int i = 0; i < SHEETS; i++) {
+        order[i]->words = calloc(order[i]->length, sizeof(uint32_t));
+        if (order[i]->length > 0 && !order[i]->words)
+            abort();
+        if (!read_numbers(order[i]->words, order[i]->length))
+            return false;
+    }
+    return true;
+}
+
+static void free_sheets(lent_sheets *sheets)
+{
+    free(sheets->rows[SOURCE_A].words);
+    free(sheets->rows[SOURCE_B].words);
+    free(sheets->probe.words);
+    free(sheets->output.words);
+}
+
+/* ---- the call ---- */
+
+static answer perform(call *asked)
+{
+    const uint32_t *arguments = asked->arguments;
+    session_record *record = &asked->record;
+    switch (asked->kind) {
+    case OPEN:
+        return box_open(record, &asked->sheets, arguments[0], arguments[1], arguments[2]);
+    case ARRIVE:
+        return box_arrive(record, &asked->sheets, arguments[0], arguments[1], arguments[2]);
+    case EVICT:
+        return box_evict(record, &asked->sheets, arguments[0], arguments[1]);
+    case RUN:
+        return box_run(record, &asked->sheets, arguments[0], arguments[1]);
+    case CLOSE:
+        return box_close(record, &asked->sheets, arguments[0]);
+    default: /* DRAIN */
+        return box_drain(record, &asked->sheets);
+    }
+}
+
+/* ---- printing ---- */
+
+static void print_answer(answer given)
+{
+    printf("ANSWER %u %u", (unsigned)given.kind, (unsigned)given.number);
+    if (given.kind == REFUSED && given.number == ROOM_SHORT)
+        printf(" %u", (unsigned)given.needed);
+    printf("\n");
+}
+
+static void print_numbers(const uint32_t *numbers, uint32_t count)
+{
+    for (uint32_t i = 0; i < count; i++)
+        printf(" %u", (unsigned)numbers[i]);
+}
+
+static void print_record(const session_record *record)
+{
+    printf("SESSION %u %u %u %u %u %u %d %d",
+           (unsigned)record->partitions, (unsigned)record->memory,
+           (unsigned)record->most_rows, (unsigned)record->clock,
+           (unsigned)record->rows[SOURCE_A], (unsigned)record->rows[SOURCE_B],
+           record->closed[SOURCE_A], record->closed[SOURCE_B]);
+    print_numbers(record->entries, LISTS);
+    printf(" %u\n", (unsigned)record->position);
+}
+
+static void print_sheet(const char *name, const sheet *printed)
+{
+    printf("%s", name);
+    print_numbers(printed->words, printed->length);
+    printf("\n");
+}
+
+static void print_call(const call *performed, answer given)
+{
+    print_answer(given);
+    print_record(&performed->record);
+    print_sheet("A", &performed->sheets.rows[SOURCE_A]);
+    print_sheet("B", &performed->sheets.rows[SOURCE_B]);
+    print_sheet("PROBE", &performed->sheets.probe);
+    print_sheet("OUT", &performed->sheets.output);
+}
+
+int main(void)
+{
+    call asked = { .kind = OPEN };
+    if (read_call_itself(&asked) && read_record(&asked.record) && read_sheets(&asked.sheets)) {
+        answer given = perform(&asked);
+        print_call(&asked, given);
+    } else {
+        printf("BAD\n");
+    }
+    free_sheets(&asked.sheets);
+    return 0;
+}
