@@ -128,7 +128,7 @@ rows-made (Flush B q) w h k = record {
   b-long = rw length-lay (h .b-long);
 }
 
-length-made : (room : Room) (w : World) (s : Source) → length (sheetOf (makeRoom room w) s) ≡ length (sheetOf w s)
+pub length-made : (room : Room) (w : World) (s : Source) → length (sheetOf (makeRoom room w) s) ≡ length (sheetOf w s)
 unfolding flush
 length-made Enough w s = refl
 length-made (Flush A q) w A = length-lay _ _ _

@@ -1,7 +1,7 @@
 -- What every call's promise says: it allows one result, a refusal changes nothing, and nothing runs out of its words.
 -- By cases on the verdict and on the call. Assumes nothing.
 use mathlib.Core.Path.{_≡_, refl, sym, ap, _∙_}
-use mathlib.Core.Bool.{Bool, true, false, cond}
+use mathlib.Core.Bool.{Bool, true, false, cond, false≢true}
 use mathlib.Core.List.{List}
 use Prim.Native.Nat.{ℕ, suc, _+_, _≤_}
 use native.Mathlib.Omega.{arith}
@@ -15,6 +15,7 @@ use Rattle.stamps.specs.Keys.{itemOf}
 use Rattle.sheets.specs.Layout.{roomOf}
 use Rattle.sheets.specs.Rows.{hot, latest}
 use Rattle.sheets.specs.Pairs.{told, putFrom}
+use Rattle.calls.specs.Answers.{refused}
 use Rattle.calls.specs.Calls.{After, after, joins, arrives, evicts, runs, owed, drains, effect, settle, afterCall}
 use Rattle.calls.specs.Refusals.{verdict, roomFor, makeRoom, idle, ran, checks}
 use Rattle.calls.specs.Work.{leaves, world}
@@ -43,28 +44,37 @@ one-result x r r′ a a′ b b′ probe probe′ o o′ e f = let g : leaves r a
 
 -- ---- a refusal hands back the same session and leaves every word
 
-accepts : (w : World) (o : List ℕ) (c : Call) (y : Why) → effect w o c .answer ≡ Refused y → ⊥
+pub accepts : (w : World) (o : List ℕ) (c : Call) → refused (effect w o c .answer) ≡ false
 unfolding effect arrives joins evicts runs drains
-accepts w o (Arrive s m) y e = let z : _≡_ {A = ℕ} 0 1 = cc in omega arith
-accepts w o (Evict s q) y e = let z : _≡_ {A = ℕ} 0 1 = cc in omega arith
-accepts w o (Run s q) y e = go (idle w s q) e
+accepts w o (Arrive s m) = refl
+accepts w o (Evict s q) = refl
+accepts w o (Run s q) = go (idle w s q)
   where
-    go : (u : Bool) → (cond u (after (Ran 0) w o) (after (Ran (length (ran s q w))) (note s q (latest (w .session .parts) q (rowsOf w s) (countOf w s)) w) (putFrom 0 (told s (seenFrom s w) (ran s q w)) o))) .answer ≡ Refused y → ⊥
-    go true e = let z : _≡_ {A = ℕ} 0 1 = cc in omega arith
-    go false e = let z : _≡_ {A = ℕ} 0 1 = cc in omega arith
-accepts w o (Close s) y e = let z : _≡_ {A = ℕ} 0 1 = cc in omega arith
-accepts w o Drain y e = go (ltb (roomOf (length o)) (length (owed w))) e
+    go : (u : Bool) → refused ((cond u (after (Ran 0) w o) (after (Ran (length (ran s q w))) (note s q (latest (w .session .parts) q (rowsOf w s) (countOf w s)) w) (putFrom 0 (told s (seenFrom s w) (ran s q w)) o))) .answer) ≡ false
+    go true = refl
+    go false = refl
+accepts w o (Close s) = refl
+accepts w o Drain = go (ltb (roomOf (length o)) (length (owed w)))
   where
-    go : (u : Bool) → cond u More Done (length (take (roomOf (length o)) (owed w))) ≡ Refused y → ⊥
-    go true e = let z : _≡_ {A = ℕ} 0 1 = cc in omega arith
-    go false e = let z : _≡_ {A = ℕ} 0 1 = cc in omega arith
+    go : (u : Bool) → refused (cond u More Done (length (take (roomOf (length o)) (owed w)))) ≡ false
+    go true = refl
+    go false = refl
+
+-- a refused call is refused by its checks
+pub refused-by : (w : World) (o : List ℕ) (c : Call) (y : Why) → afterCall w o c .answer ≡ Refused y → verdict (checks w c (roomOf (length o))) ≡ No y
+unfolding afterCall
+refused-by w o c y = go (verdict (checks w c (roomOf (length o))))
+  where
+    go : (v : Verdict) → settle v w o (effect w o c) .answer ≡ Refused y → v ≡ No y
+    go Good e = absurd (false≢true (sym (accepts w o c) ∙ ap refused e))
+    go (No z) e = cc
 
 pub refusal-leaves : (w : World) (o : List ℕ) (c : Call) (y : Why) → afterCall w o c .answer ≡ Refused y → (afterCall w o c .world ≡ w) × (afterCall w o c .out ≡ o)
 unfolding afterCall
 refusal-leaves w o c y = go (verdict (checks w c (roomOf (length o))))
   where
     go : (v : Verdict) → settle v w o (effect w o c) .answer ≡ Refused y → (settle v w o (effect w o c) .world ≡ w) × (settle v w o (effect w o c) .out ≡ o)
-    go Good e = absurd (accepts w o c y e)
+    go Good e = absurd (false≢true (sym (accepts w o c) ∙ ap refused e))
     go (No z) e = (refl, refl)
 
 -- ---- the clock goes up by at most one a row, and one more for a new one

@@ -1,4 +1,5 @@
 -- Document 01's number and values for each kind of answer.
+use mathlib.Core.Bool.{Bool, true, false}
 use Prim.Native.Nat.{ℕ}
 use Rattle.calls.specs.declared.types.Why.{Why}
 use Rattle.calls.specs.declared.types.Why.the-variants.{BadSheet, BadKey, BadPart, Closed, SheetFull, ListFull, StillOpen, RoomShort, BadLine, NoStart}
@@ -28,3 +29,14 @@ pairsOf Shut = 0
 pairsOf (More n) = n
 pairsOf (Done n) = n
 pairsOf (Refused w) = 0
+
+-- whether it is a refusal
+abbrev pub refused : Answer → Bool
+refused Opened = false
+refused (Taken n) = false
+refused (Flushed n) = false
+refused (Ran n) = false
+refused Shut = false
+refused (More n) = false
+refused (Done n) = false
+refused (Refused w) = true

@@ -1,3 +1,4 @@
+pub mod Joins
 pub mod Layout
 pub mod Lists
 pub mod Pairs

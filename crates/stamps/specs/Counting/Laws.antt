@@ -5,6 +5,7 @@ use mathlib.Core.Bool.{Bool, true, false, cond, _&&_, false≢true}
 use mathlib.Core.Logic.{_≢_}
 use mathlib.Core.List.{List, [], _∷_, _++_}
 use Prim.Native.Nat.{ℕ, zero, suc, _+_, _≤_, _<_}
+use native.Mathlib.Nat.{le-refl}
 use native.Mathlib.Omega.{arith}
 use lib.Dec.{eqb}
 use lib.ListN.{length, length-append, length-set, getD, set, List·getD-append}
@@ -50,6 +51,14 @@ tally-le t (suc n) = omega (arith, tally-le t n, bit-le (t n))
 pub tally-cong : (t u : ℕ → Bool) (n : ℕ) → ((i : ℕ) → i < n → t i ≡ u i) → tally t n ≡ tally u n
 tally-cong t u zero h = refl
 tally-cong t u (suc n) h = rw (h n (omega arith), tally-cong t u n (λ i k. h i (omega arith)))
+
+pub tally-mono : (t : ℕ → Bool) (i n : ℕ) → i ≤ n → tally t i ≤ tally t n
+tally-mono t i zero h = let e : i ≡ 0 = omega arith in rw e (le-refl _)
+tally-mono t i (suc n) h = go (eqb i (suc n)) refl (tally-mono t i n)
+  where
+    go : (u : Bool) → eqb i (suc n) ≡ u → (i ≤ n → tally t i ≤ tally t n) → tally t i ≤ tally t (suc n)
+    go true e ih = rw (eqb-true i (suc n) e) (le-refl _)
+    go false e ih = omega (arith, ih (omega (arith, tests)))
 
 -- ---- top
 

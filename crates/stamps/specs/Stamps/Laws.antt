@@ -37,6 +37,11 @@ pub done-is : (ex ey : List Entry) (x y : Row) → doneBefore ex ey x y ≡ (tog
 unfolding doneBefore
 done-is ex ey x y = refl
 
+-- two rows in memory are done before
+pub done-memory : (ex ey : List Entry) (x y : Row) → inMemory x ≡ true → inMemory y ≡ true → doneBefore ex ey x y ≡ true
+unfolding doneBefore together alive
+done-memory ex ey x y h k = rw (h, k)
+
 -- when the sources swap
 pub done-swap : (ex ey : List Entry) (x y : Row) → doneBefore ex ey x y ≡ doneBefore ey ex y x
 unfolding doneBefore together

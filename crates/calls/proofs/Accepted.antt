@@ -1,0 +1,119 @@
+-- The rows that the sheets hold are the accepted ones, in their order: an arrival adds its own at the end, and no call changes another.
+-- By what each change leaves. Assumes nothing.
+use mathlib.Core.Path.{_≡_, refl, sym, ap, ap₂, _∙_}
+use mathlib.Core.Bool.{Bool, true, false, cond}
+use mathlib.Core.List.{List, [], _∷_, _++_, append-nil, append-assoc}
+use Prim.Native.Nat.{ℕ, suc, _≤_}
+use native.Mathlib.Omega.{arith}
+use lib.ListN.{length}
+use borrow.Author.Tests.{lt-ltb, eq-eqb, ne-eqb}
+use Rattle.stamps.specs.declared.Source.{Source}
+use Rattle.stamps.specs.declared.Source.the-variants.{A, B}
+use Rattle.stamps.specs.declared.Item.{Item}
+use Rattle.stamps.specs.Counting.{values}
+use Rattle.stamps.specs.Counting.Laws.{values-cong}
+use Rattle.stamps.specs.Keys.{itemOf}
+use Rattle.stamps.specs.Sources.{other}
+use Rattle.sheets.specs.declared.layout.Told.{Told}
+use Rattle.sheets.specs.Layout.{roomOf, rowsNeed}
+use Rattle.sheets.specs.Pairs.{Side, told, putFrom}
+use Rattle.sheets.specs.Rows.{latest, flushed}
+use Rattle.sheets.proofs.Changes.{items, newRow, flushedSide, storedSide}
+use Rattle.sheets.proofs.Laws.{flushed-item}
+use Rattle.calls.specs.Answers.{refused}
+use Rattle.calls.specs.Calls.{after, arrives, joins, evicts, runs, drains, effect, settle, afterCall}
+use Rattle.calls.specs.Demand3.{Lent, run, offered, accepted, itemsOf}
+use Rattle.calls.specs.Refusals.{verdict, roomFor, makeRoom, idle, ran, checks}
+use Rattle.calls.specs.Work.{same}
+use Rattle.calls.specs.World.{World, countOf, sheetOf, rowsOf, sideOf, seenFrom, flush, store, note, shut, move}
+use Rattle.calls.specs.declared.types.Call.{Call}
+use Rattle.calls.specs.declared.types.Call.the-variants.{Arrive, Evict, Run, Close, Drain}
+use Rattle.calls.specs.declared.types.Answer.the-variants.{Ran}
+use Rattle.calls.specs.declared.refusals.Verdict.{Verdict}
+use Rattle.calls.specs.declared.refusals.Verdict.the-variants.{Good, No}
+use Rattle.calls.specs.declared.arriving.Room.{Room}
+use Rattle.calls.specs.declared.arriving.Room.the-variants.{Enough, Flush}
+use Rattle.calls.proofs.Fitting.{rows-fit}
+use Rattle.calls.proofs.Laws.{accepts}
+use Rattle.calls.proofs.Seen.{both-sources, flush-seen, store-seen}
+use Rattle.calls.proofs.Steps.{Sits, sits-call, row-space}
+
+-- the items of a side, in their order
+abbrev sideItems : Side → List Item
+sideItems d = values (items d) (d .count)
+
+items-flushed : (parts q c : ℕ) (d : Side) → sideItems (flushedSide parts q c d) ≡ sideItems d
+items-flushed parts q c d = values-cong _ (items d) (d .count) λ i h. ap (λ (u : Bool). cond u (flushed parts q c (d .row) i) (d .row i) .item) (lt-ltb i (d .count) h) ∙ flushed-item parts q c (d .row) i
+
+items-stored : (item : Item) (c : ℕ) (d : Side) → sideItems (storedSide item c d) ≡ sideItems d ++ (item ∷ [])
+unfolding values
+items-stored item c d = ap₂ (λ (l : List Item) (x : Item). l ++ (x ∷ [])) (values-cong _ (items d) (d .count) λ i h. ap (λ (u : Bool). cond u (newRow item c) (d .row i) .item) (ne-eqb i (d .count) (omega arith)))
+    (ap (λ (u : Bool). cond u (newRow item c) (d .row (d .count)) .item) (eq-eqb (d .count) (d .count) refl))
+
+flush-items : (s : Source) (q : ℕ) (w : World) → rowsNeed (countOf w s) ≤ length (sheetOf w s) → (u : Source) → itemsOf (flush s q w) u ≡ itemsOf w u
+flush-items s q w h = let n = flush-seen s q w h in
+    both-sources (λ u. itemsOf (flush s q w) u ≡ itemsOf w u) s (ap sideItems (n .own) ∙ items-flushed (w .session .parts) q (w .session .clock) (sideOf w s)) (ap sideItems (n .facing))
+
+store-items : (s : Source) (item : Item) (w : World) → rowsNeed (suc (countOf w s)) ≤ length (sheetOf w s) → (u : Source) → itemsOf (store s item w) u ≡ itemsOf w u ++ cond (same s u) (item ∷ []) []
+store-items s item w h = let n = store-seen s item w h in
+    both-sources (λ u. itemsOf (store s item w) u ≡ itemsOf w u ++ cond (same s u) (item ∷ []) []) s
+    (ap sideItems (n .own) ∙ items-stored item (w .session .clock) (sideOf w s) ∙ ap (λ (v : Bool). itemsOf w s ++ cond v (item ∷ []) []) (sym (same-own s)))
+    (ap sideItems (n .facing) ∙ sym (append-nil (itemsOf w (other s))) ∙ ap (λ (v : Bool). itemsOf w (other s) ++ cond v (item ∷ []) []) (sym (same-facing s)))
+  where
+    same-own : (s : Source) → same s s ≡ true
+    same-own A = refl
+    same-own B = refl
+
+    same-facing : (s : Source) → same s (other s) ≡ false
+    same-facing A = refl
+    same-facing B = refl
+
+module _ (w : World) (l : List Told) (o : List ℕ) (g : Sits w l) (u : Source) where
+  -- the items after a call
+  abbrev Adds : World → List Item → Type 0
+  Adds w′ new = itemsOf w′ u ≡ itemsOf w u ++ new
+
+  unchanged : (w′ : World) → itemsOf w′ u ≡ itemsOf w u → Adds w′ []
+  unchanged w′ e = e ∙ sym (append-nil (itemsOf w u))
+
+  room-items : (room : Room) → itemsOf (makeRoom room w) u ≡ itemsOf w u
+  room-items Enough = refl
+  room-items (Flush s q) = flush-items s q w (rows-fit w (g .fit) s) u
+
+  run-items : (s : Source) (q : ℕ) → Adds (effect w o (Run s q) .world) []
+  unfolding effect runs note
+  run-items s q = unchanged (effect w o (Run s q) .world) (go (idle w s q))
+    where
+      go : (v : Bool) → itemsOf (cond v (after (Ran 0) w o) (after (Ran (length (ran s q w))) (note s q (latest (w .session .parts) q (rowsOf w s) (countOf w s)) w) (putFrom 0 (told s (seenFrom s w) (ran s q w)) o)) .world) u ≡ itemsOf w u
+      go true = refl
+      go false = refl
+
+  shut-items : (s : Source) → Adds (shut s w) []
+  unfolding shut
+  shut-items s = unchanged (shut s w) (go s)
+    where
+      go : (s : Source) → itemsOf (shut s w) u ≡ itemsOf w u
+      go A = both-sources (λ u. itemsOf (shut A w) u ≡ itemsOf w u) A refl refl u
+      go B = both-sources (λ u. itemsOf (shut B w) u ≡ itemsOf w u) B refl refl u
+
+  effect-items : (c : Call) → verdict (checks w c (roomOf (length o))) ≡ Good → Adds (effect w o c .world) (offered u c)
+  unfolding effect arrives joins evicts drains move
+  effect-items (Arrive s m) h = store-items s (itemOf m) (makeRoom (roomFor w) w) (row-space w l o g s m h) u ∙ ap (λ (k : List Item). k ++ cond (same s u) (itemOf m ∷ []) []) (room-items (roomFor w))
+  effect-items (Evict s q) h = unchanged (flush s q w) (flush-items s q w (rows-fit w (g .fit) s) u)
+  effect-items (Run s q) h = run-items s q
+  effect-items (Close s) h = shut-items s
+  effect-items Drain h = unchanged (drains w o .world) refl
+
+  call-items : (c : Call) → Adds (afterCall w o c .world) (cond (refused (afterCall w o c .answer)) [] (offered u c))
+  unfolding afterCall
+  call-items c = go (verdict (checks w c (roomOf (length o)))) refl
+    where
+      go : (v : Verdict) → verdict (checks w c (roomOf (length o))) ≡ v → Adds (settle v w o (effect w o c) .world) (cond (refused (settle v w o (effect w o c) .answer)) [] (offered u c))
+      go Good e = effect-items c e ∙ ap (λ (v : Bool). itemsOf w u ++ cond v [] (offered u c)) (sym (accepts w o c))
+      go (No y) e = unchanged w refl
+
+pub run-accepts : (w : World) (l : List Told) (cs : List Lent) → Sits w l → (s : Source) → itemsOf (run w l cs .world) s ≡ itemsOf w s ++ accepted s w cs
+run-accepts w l [] g s = sym (append-nil (itemsOf w s))
+run-accepts w l (c ∷ cs) g s = run-accepts _ _ cs (sits-call w l (c .out) g (c .call)) s
+    ∙ ap (λ (k : List Item). k ++ accepted s (afterCall w (c .out) (c .call) .world) cs) (call-items w l (c .out) g s (c .call))
+    ∙ append-assoc (itemsOf w s) _ (accepted s (afterCall w (c .out) (c .call) .world) cs)

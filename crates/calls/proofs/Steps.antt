@@ -1,0 +1,164 @@
+-- Each call that is not refused keeps what holds between calls, and what it wrote is read back. By the checks that it passed.
+-- The victim enters as some portion. Assumes nothing.
+use mathlib.Core.Path.{_≡_, refl, sym, ap, _∙_}
+use mathlib.Core.Bool.{Bool, true, false, cond, not, _&&_}
+use mathlib.Core.List.{List, [], _∷_, _++_, append-nil}
+use Prim.Native.Nat.{ℕ, suc, _+_, _*_, _≤_, _<_}
+use native.Mathlib.Omega.{arith}
+use lib.Dec.{ltb, leb}
+use lib.ListN.{length, take, length-take}
+use borrow.Author.Tests.{not-false, leb-false, ltb-false}
+use Rattle.stamps.specs.declared.Source.{Source}
+use Rattle.stamps.specs.declared.Source.the-variants.{A, B}
+use Rattle.stamps.specs.declared.Message.{Message}
+use Rattle.stamps.specs.declared.Item.{Item}
+use Rattle.stamps.specs.Counting.Laws.{both}
+use Rattle.stamps.specs.Keys.{itemOf}
+use Rattle.stamps.specs.Sources.{other}
+use Rattle.sheets.specs.declared.layout.Told.{Told}
+use Rattle.sheets.specs.Layout.{rowsNeed, roomOf}
+use Rattle.sheets.specs.Pairs.{Pair, tellAll, told, putFrom, pairsAt}
+use Rattle.sheets.specs.Rows.{latest}
+use Rattle.sheets.proofs.Laws.{read-put, length-tellAll}
+use Rattle.sheets.proofs.Rises.{Parts, drain-parts}
+use Rattle.calls.specs.Answers.{pairsOf}
+use Rattle.calls.specs.Calls.{After, after, joins, arrives, evicts, runs, owed, drains, effect, settle, afterCall}
+use Rattle.calls.specs.Demand3.{wrote}
+use Rattle.calls.specs.Refusals.{check, verdict, roomFor, makeRoom, arrived, idle, ran, bothClosed, portionChecks, roomCheck, checks}
+use Rattle.calls.specs.World.{World, countOf, sheetOf, closedOf, rowsOf, sideOf, seenFrom, flush, note, shut, move}
+use Rattle.calls.specs.declared.types.Call.{Call}
+use Rattle.calls.specs.declared.types.Call.the-variants.{Arrive, Evict, Run, Close, Drain}
+use Rattle.calls.specs.declared.types.Why.the-variants.{ListFull}
+use Rattle.calls.specs.declared.types.Answer.the-variants.{Ran, More, Done}
+use Rattle.calls.specs.declared.refusals.Verdict.{Verdict}
+use Rattle.calls.specs.declared.refusals.Verdict.the-variants.{Good, No}
+use Rattle.calls.specs.declared.arriving.Room.{Room}
+use Rattle.calls.specs.declared.arriving.Room.the-variants.{Enough, Flush}
+use Rattle.calls.proofs.Arrivals.{count-room}
+use Rattle.calls.proofs.Owing.{Sound, sound-flush, sound-store, sound-note, sound-shut, sound-move}
+use Rattle.calls.proofs.Fitting.{Fit, rows-fit, row-fits, fit-flush, fit-store, listable, fit-note, fit-shut, fit-move}
+use Rattle.calls.proofs.Seen.{both-sources, Extent, Listable, flush-seen}
+use Rattle.calls.proofs.Settling.{verdict-first, verdict-rest}
+
+-- what holds between calls
+pub record Sits (w : World) (l : List Told) : Type 0 where
+  pub sound : Sound w l
+  pub fit : Fit w
+
+-- no drain has begun while a source is open
+not-begun : (w : World) (l : List Told) → Sound w l → bothClosed (w .session) ≡ false → w .session .next ≡ 0
+not-begun w l g e = go (closedOf w A) refl (closedOf w B) refl e
+  where
+    go : (u : Bool) → closedOf w A ≡ u → (v : Bool) → closedOf w B ≡ v → (u && v) ≡ false → w .session .next ≡ 0
+    go false h v k e = g .start A h
+    go true h false k e = g .start B k
+    go true h true k e = absurd (mathlib.Core.Bool.true≢false e)
+
+-- ---- what was written is read back
+
+reads : (s : Source) (f f′ : ℕ → Item) (ps : List Pair) (o : List ℕ) → length ps ≤ roomOf (length o)
+    → pairsAt (putFrom 0 (tellAll s f f′ ps) o) 0 (length ps) ≡ tellAll s f f′ ps
+reads s f f′ ps o h = let e : length (tellAll s f f′ ps) ≡ length ps = length-tellAll s f f′ ps in
+    ap (pairsAt (putFrom 0 (tellAll s f f′ ps) o) 0) (sym e) ∙ read-put 0 (tellAll s f f′ ps) o (rw e (omega arith))
+
+-- ---- each call
+
+sits-flush : (s : Source) (q : ℕ) (w : World) (l : List Told) → Sits w l → w .session .next ≡ 0 → Sits (flush s q w) l
+sits-flush s q w l g z = record { sound = sound-flush s q w l (rows-fit w (g .fit) s) z (g .sound); fit = fit-flush s q w (g .fit) z }
+
+sits-shut : (s : Source) (w : World) (l : List Told) → Sits w l → Sits (shut s w) l
+sits-shut s w l g = record { sound = sound-shut s w l (g .sound); fit = fit-shut s w (g .fit) }
+
+module _ (w : World) (l : List Told) (o : List ℕ) (g : Sits w l) where
+  -- what a call leaves and has written
+  abbrev Goes : After → Type 0
+  Goes r = Sits (r .world) (l ++ wrote r)
+
+  nothing : (w′ : World) → Sits w′ l → Sits w′ (l ++ [])
+  nothing w′ h = rw append-nil h
+
+  -- some portion, or none, is flushed
+  sits-room : (room : Room) → w .session .next ≡ 0 → Sits (makeRoom room w) l × (makeRoom room w .session .next ≡ 0)
+  sits-room Enough z = (g, z)
+  sits-room (Flush s q) z = (sits-flush s q w l g z, flush-seen s q w (rows-fit w (g .fit) s) .same-next ∙ z)
+
+  limit-room : (room : Room) → makeRoom room w .session .limit ≡ w .session .limit
+  limit-room Enough = refl
+  limit-room (Flush s q) = ap (λ (e : Extent). e .limit) (flush-seen s q w (rows-fit w (g .fit) s) .same-extent)
+
+  -- an arrival that is not refused
+  module _ (s : Source) (m : Message) (h : verdict (checks w (Arrive s m) (roomOf (length o))) ≡ Good) where
+    not-drained : w .session .next ≡ 0
+    unfolding checks
+    not-drained = g .sound .start s (verdict-first _ _ (verdict-rest _ _ (verdict-rest _ _ h)))
+
+    some-left : countOf (makeRoom (roomFor w) w) s < makeRoom (roomFor w) w .session .limit
+    unfolding checks
+    some-left = rw (count-room (roomFor w) w s, limit-room (roomFor w)) (leb-false _ _ (verdict-first _ _ (verdict-rest _ _ (verdict-rest _ _ (verdict-rest _ _ h)))))
+
+    room-left : length (arrived s (itemOf m) (makeRoom (roomFor w) w)) ≤ roomOf (length o)
+    unfolding checks
+    room-left = ltb-false _ _ (verdict-first _ _ (verdict-rest _ _ (verdict-rest _ _ (verdict-rest _ _ (verdict-rest _ _ h)))))
+
+    pub row-space : rowsNeed (suc (countOf (makeRoom (roomFor w) w) s)) ≤ length (sheetOf (makeRoom (roomFor w) w) s)
+    row-space = row-fits (makeRoom (roomFor w) w) (sits-room (roomFor w) not-drained .0 .fit) s some-left
+
+    sits-arrive : Goes (effect w o (Arrive s m))
+    unfolding effect arrives joins
+    sits-arrive = let w′ : World = makeRoom (roomFor w) w in let r = sits-room (roomFor w) not-drained in
+        rw (reads s (λ i. itemOf m) (λ j. rowsOf w′ (other s) j .item) (arrived s (itemOf m) w′) o room-left)
+        (record { sound = sound-store s (itemOf m) w′ l row-space (r .1) (r .0 .sound); fit = fit-store s (itemOf m) w′ (r .0 .fit) (r .1) some-left })
+
+  sits-evict : (s : Source) (q : ℕ) → verdict (checks w (Evict s q) (roomOf (length o))) ≡ Good → Goes (effect w o (Evict s q))
+  unfolding checks effect evicts
+  sits-evict s q h = nothing (flush s q w) (sits-flush s q w l g (not-begun w l (g .sound) (verdict-first _ _ (verdict-rest _ _ (verdict-rest _ _ h)))))
+
+  sits-run : (s : Source) (q : ℕ) → verdict (checks w (Run s q) (roomOf (length o))) ≡ Good → Goes (effect w o (Run s q))
+  unfolding checks effect runs
+  sits-run s q h = go (idle w s q) h
+    where
+      go : (u : Bool) → verdict (portionChecks (w .session) q (length (w .a)) (length (w .b)) (length (w .probe))
+          ++ cond u [] (check (leb 32 (length (sideOf w s .list q))) ListFull ∷ roomCheck (roomOf (length o)) (length (ran s q w)) ∷ [])) ≡ Good
+          → Goes (cond u (after (Ran 0) w o) (after (Ran (length (ran s q w))) (note s q (latest (w .session .parts) q (rowsOf w s) (countOf w s)) w) (putFrom 0 (told s (seenFrom s w) (ran s q w)) o)))
+      go true h = nothing w g
+      go false h = let h₁ = verdict-rest _ _ h in let h₂ = verdict-rest _ _ h₁ in let h₃ = verdict-rest _ _ h₂ in
+          let n : Listable s q w = listable s q w (g .fit) (leb-false _ _ (verdict-first _ _ h₁)) (leb-false _ _ (verdict-first _ _ h₃)) in
+          let z = not-begun w l (g .sound) (verdict-first _ _ h₂) in
+          rw (reads s (λ i. rowsOf w s i .item) (λ j. rowsOf w (other s) j .item) (ran s q w) o (ltb-false _ _ (verdict-first _ _ (verdict-rest _ _ h₃))))
+          (record { sound = sound-note s q w l n z (g .sound); fit = fit-note s q _ w (g .fit) z n })
+
+  -- the two kinds of a drain's answer
+  pairs-drained : (u : Bool) (n : ℕ) → pairsOf (cond u More Done n) ≡ n
+  pairs-drained true n = refl
+  pairs-drained false n = refl
+
+  pub drain-wrote : wrote (drains w o) ≡ told A (seenFrom A w) (take (roomOf (length o)) (owed w))
+  unfolding drains
+  drain-wrote = rw (pairs-drained (ltb (roomOf (length o)) (length (owed w))) (length (take (roomOf (length o)) (owed w))))
+      (reads A (λ i. rowsOf w A i .item) (λ j. rowsOf w B j .item) (take (roomOf (length o)) (owed w)) o (rw length-take (omega arith)))
+
+  pub drain-next : Parts (seenFrom A w) (w .session .next) (roomOf (length o)) (countOf w A * countOf w B) (drains w o .world .session .next) (owed w)
+  unfolding drains move
+  drain-next = drain-parts (seenFrom A w) (w .session .next) (roomOf (length o)) (g .fit .next)
+
+  sits-drain : verdict (checks w Drain (roomOf (length o))) ≡ Good → Goes (effect w o Drain)
+  unfolding checks effect drains move
+  sits-drain h = let c = both (closedOf w A) (closedOf w B) (not-false _ (verdict-first _ _ (verdict-rest _ _ h))) in
+      rw drain-wrote (record { sound = sound-move (roomOf (length o)) _ w l drain-next (both-sources (λ s. closedOf w s ≡ true) A (c .0) (c .1)) (g .sound); fit = fit-move _ w (g .fit) (drain-next .to) })
+
+  sits-effect : (c : Call) → verdict (checks w c (roomOf (length o))) ≡ Good → Goes (effect w o c)
+  unfolding effect
+  sits-effect (Arrive s m) h = sits-arrive s m h
+  sits-effect (Evict s q) h = sits-evict s q h
+  sits-effect (Run s q) h = sits-run s q h
+  sits-effect (Close s) h = nothing (shut s w) (sits-shut s w l g)
+  sits-effect Drain h = sits-drain h
+
+  -- refused or not
+  pub sits-call : (c : Call) → Goes (afterCall w o c)
+  unfolding afterCall
+  sits-call c = go (verdict (checks w c (roomOf (length o)))) refl
+    where
+      go : (v : Verdict) → verdict (checks w c (roomOf (length o))) ≡ v → Goes (settle v w o (effect w o c))
+      go Good e = sits-effect c e
+      go (No y) e = nothing w g

@@ -1,0 +1,138 @@
+-- Demand 3: "For any order of calls after an opening, refused ones included, on untouched sheets". Its parts are the fields of `Demand3`;
+-- proofs/Demand3.antt proves all of them for every run of calls.
+use mathlib.Core.Path.{_≡_}
+use mathlib.Core.Bool.{true, cond}
+use mathlib.Core.List.{List, [], _∷_, _++_}
+use Prim.Native.Nat.{ℕ, suc, _+_, _*_, _-_, _/_, _≤_, _<_, min}
+use lib.Dec.{leb}
+use lib.ListN.{length, take}
+use Rattle.stamps.specs.declared.Source.{Source}
+use Rattle.stamps.specs.declared.Source.the-variants.{A, B}
+use Rattle.stamps.specs.declared.Item.{Item}
+use Rattle.stamps.specs.Counting.{bit, values}
+use Rattle.stamps.specs.Keys.{itemOf, itemsMatch}
+use Rattle.stamps.specs.Stamps.{inMemory}
+use Rattle.sheets.specs.declared.layout.Told.{Told}
+use Rattle.sheets.specs.Joins.{isPair, times, missing}
+use Rattle.sheets.specs.Layout.{roomOf}
+use Rattle.sheets.specs.Pairs.{pairsAt}
+use Rattle.calls.specs.Answers.{pairsOf, refused}
+use Rattle.calls.specs.Calls.{After, afterCall, opens}
+use Rattle.calls.specs.Refusals.{bothClosed}
+use Rattle.calls.specs.Work.{same}
+use Rattle.calls.specs.World.{World, countOf, rowsOf, seenFrom}
+use Rattle.calls.specs.declared.types.Call.{Call}
+use Rattle.calls.specs.declared.types.Call.the-variants.{Arrive, Evict, Run, Close, Drain}
+use Rattle.calls.specs.declared.types.Why.the-variants.{BadSheet}
+use Rattle.calls.specs.declared.types.Answer.the-variants.{More, Done, Refused}
+
+-- ---- a run of calls
+
+-- a call, with the output that it is lent
+pub record Lent : Type 0 where
+  pub call : Call
+  pub out : List ℕ
+
+-- the pairs that a call wrote, read back from its output
+abbrev pub wrote : After → List Told
+wrote r = pairsAt (r .out) 0 (pairsOf (r .answer))
+
+-- the box at a moment, and all pairs written by then
+pub record Moment : Type 0 where
+  pub world : World
+  pub written : List Told
+
+-- each call is given the record and the sheets as the last one left them
+abbrev pub run : World → List Told → List Lent → Moment
+run w l [] = record { world = w; written = l }
+run w l (c ∷ cs) = let r = afterCall w (c .out) (c .call) in run (r .world) (l ++ wrote r) cs
+
+-- the box as the opening hands it over, with sheets of any content
+abbrev pub opened : ℕ → ℕ → ℕ → List ℕ → List ℕ → List ℕ → World
+opened p m n a b probe = record { session = opens p m n (length a) (length b) (length probe) .session; a = a; b = b; probe = probe }
+
+-- ---- the rows that were accepted
+
+-- the row that a call offers to a source, if it does
+abbrev pub offered : Source → Call → List Item
+offered s (Arrive v m) = cond (same v s) (itemOf m ∷ []) []
+offered s (Evict v q) = []
+offered s (Run v q) = []
+offered s (Close v) = []
+offered s Drain = []
+
+-- those of a run that were not refused, in their order
+abbrev pub accepted : Source → World → List Lent → List Item
+accepted s w [] = []
+accepted s w (c ∷ cs) = let r = afterCall w (c .out) (c .call) in cond (refused (r .answer)) [] (offered s (c .call)) ++ accepted s (r .world) cs
+
+-- the rows that a sheet holds
+abbrev pub itemsOf : World → Source → List Item
+itemsOf w s = values (λ i. rowsOf w s i .item) (countOf w s)
+
+-- ---- what is left
+
+-- the pair of two rows
+abbrev pub pairOf : World → ℕ → ℕ → Told
+pairOf w i j = record { a = i; b = j; key = rowsOf w A i .item .key }
+
+-- a pair of accepted rows that match, with their key
+abbrev pub owes : World → Told → ℕ
+owes w x = bit (isPair (seenFrom A w) x)
+
+-- "matching pairs unwritten", by A row, then B row
+abbrev pub left : World → List Told → List Told
+left w l = missing (seenFrom A w) l
+
+-- a drain
+abbrev pub drainOf : List ℕ → Lent
+drainOf o = record { call = Drain; out = o }
+
+-- drains one after the other, each with an output of its own
+abbrev pub drainsOf : List (List ℕ) → List Lent
+drainsOf [] = []
+drainsOf (o ∷ os) = drainOf o ∷ drainsOf os
+
+-- each of the outputs has room r
+abbrev pub Rooms : ℕ → List (List ℕ) → Type 0
+Rooms r [] = Unit
+Rooms r (o ∷ os) = (roomOf (length o) ≡ r) × Rooms r os
+
+-- n / r, rounded up
+abbrev pub ceil : ℕ → ℕ → ℕ
+ceil n r = (n + (r - 1)) / r
+
+-- ---- the demand, at a moment of a run
+
+-- a drain that writes the first r of the pairs that are left: min(r, n) of them, and "says Done exactly when none is left"
+pub record Drained (l : List Told) (r : ℕ) (x : After) : Type 0 where
+  pub writes : wrote x ≡ take r l
+  pub says : x .answer ≡ cond (leb (length l) r) Done More (min r (length l))
+
+module _ (start : World) (calls : List Lent) where
+  -- the box after these calls
+  abbrev pub now : World
+  now = run start [] calls .world
+
+  -- and all that they wrote
+  abbrev pub written : List Told
+  written = run start [] calls .written
+
+  pub record Demand3 : Type 0 where
+    -- row i of a source is the i-th that was accepted from it
+    pub rows : (s : Source) → itemsOf now s ≡ accepted s start calls
+    -- a. "no pair is ever written twice, none whose keys differ": at most once if it is a pair of accepted rows that match, with their key, and else never
+    pub once : (x : Told) → times x written ≤ owes now x
+    -- b. "two matching rows in memory together are out once the later one is accepted"
+    pub prompt : (i j : ℕ) → i < countOf now A → j < countOf now B → inMemory (rowsOf now A i) ≡ true → inMemory (rowsOf now B j) ≡ true
+        → itemsMatch (rowsOf now A i .item) (rowsOf now B j .item) ≡ true → times (pairOf now i j) written ≡ 1
+    -- c. "with both feeds closed and n matching pairs unwritten, a drain with room r ≥ 1 writes exactly min(r, n)"
+    pub drain : bothClosed (now .session) ≡ true → (o : List ℕ) → 1 ≤ roomOf (length o) → Drained (left now written) (roomOf (length o)) (afterCall now o Drain)
+    -- d. "with room r each time Done comes at drain number ceil(n / r), at the first if n is 0": the drain after `os` has number length os + 1
+    pub drains : bothClosed (now .session) ≡ true → (r : ℕ) → 1 ≤ r → (os : List (List ℕ)) → Rooms r os → (o : List ℕ) → roomOf (length o) ≡ r
+        → let n = length (left now written) in let k = length os in
+        afterCall (run now written (drainsOf os) .world) o Drain .answer ≡ cond (leb (ceil n r) (suc k)) Done More (min r (n - k * r))
+    -- e. after Done, the pairs written are the matching pairs of the accepted rows, each once
+    pub whole : (o : List ℕ) (n : ℕ) → afterCall now o Drain .answer ≡ Done n → (x : Told) → times x (written ++ wrote (afterCall now o Drain)) ≡ owes now x
+    -- and no call is ever refused as BadSheet
+    pub fits : (o : List ℕ) (c : Call) → afterCall now o c .answer ≡ Refused BadSheet → ⊥

@@ -1,0 +1,156 @@
+-- How often a pair stands among those that an arrival, a run or a drain writes. By one law for `keep`, one for the line and one for the grid.
+-- Assumes nothing.
+use mathlib.Core.Path.{_≡_, refl, sym, ap, _∙_}
+use mathlib.Core.Bool.{Bool, true, false, cond, _&&_, and-comm, and-true, and-false, false≢true}
+use mathlib.Core.List.{List, [], _∷_, _++_}
+use Prim.Native.Nat.{ℕ, zero, suc, _+_, _*_}
+use native.Mathlib.Nat.{zero-add}
+use native.Mathlib.Omega.{arith}
+use lib.Dec.{ltb, leb, eqb, leb·zero}
+use borrow.Author.Tests.{lt-ltb, le-ltb, lt-leb, le-leb, eqb-true, eq-eqb}
+use Rattle.stamps.specs.declared.Source.{Source}
+use Rattle.stamps.specs.declared.Source.the-variants.{A, B}
+use Rattle.stamps.specs.declared.Item.{Item}
+use Rattle.stamps.specs.declared.Row.{Row}
+use Rattle.stamps.specs.Counting.{bit, keep}
+use Rattle.stamps.specs.Counting.Laws.{tests}
+use Rattle.sheets.specs.Layout.{Told}
+use Rattle.sheets.specs.Joins.{inside, numbers, same, times}
+use Rattle.sheets.specs.Pairs.{Table, Pair, across, down, every, met, arrivalPairs, wanted, wantedPairs, tell, tellAll, told}
+use Rattle.sheets.specs.declared.pairs.Scope.{Scope}
+
+-- ---- seen from a source
+
+-- where a pair stands
+abbrev pub place : Source → Told → Pair
+place A x = record { a = x .a; b = x .b }
+place B x = record { a = x .b; b = x .a }
+
+-- it has the key of A's row
+abbrev pub keyed : Source → (ℕ → Item) → (ℕ → Item) → Told → Bool
+keyed A f g x = eqb (x .key) (f (x .a) .key)
+keyed B f g x = eqb (x .key) (g (x .a) .key)
+
+-- ---- counting
+
+-- two pairs of row numbers are one
+abbrev pub at : Pair → Pair → Bool
+at p q = eqb (p .a) (q .a) && eqb (p .b) (q .b)
+
+-- how often a pair of row numbers stands in a list
+abbrev pub count : Pair → List Pair → ℕ
+count p [] = 0
+count p (q ∷ ps) = bit (at p q) + count p ps
+
+pub at-eq : (p q : Pair) → at p q ≡ true → p ≡ q
+at-eq p q h = go (eqb (p .a) (q .a)) (eqb (p .b) (q .b)) refl refl h
+  where
+    go : (u v : Bool) → eqb (p .a) (q .a) ≡ u → eqb (p .b) (q .b) ≡ v → (u && v) ≡ true → p ≡ q
+    go true true e f g = λ i. record { a = eqb-true (p .a) (q .a) e i; b = eqb-true (p .b) (q .b) f i }
+    go true false e f g = absurd (false≢true g)
+    go false v e f g = absurd (false≢true g)
+
+pub at-refl : (p : Pair) → at p p ≡ true
+at-refl p = rw (eq-eqb (p .a) (p .a) refl, eq-eqb (p .b) (p .b) refl)
+
+pub times-append : (x : Told) (l m : List Told) → times x (l ++ m) ≡ times x l + times x m
+times-append x [] m = omega arith
+times-append x (y ∷ l) m = omega (arith, times-append x l m)
+
+-- what is told of a pair
+same-tell : (s : Source) (f g : ℕ → Item) (x : Told) (p : Pair) → same x (tell s p (f (p .a)) (g (p .b))) ≡ (keyed s f g x && at (place s x) p)
+same-tell A f g x p = go (eqb (x .a) (p .a)) refl
+  where
+    go : (u : Bool) → eqb (x .a) (p .a) ≡ u → (u && (eqb (x .b) (p .b) && eqb (x .key) (f (p .a) .key))) ≡ (eqb (x .key) (f (x .a) .key) && (u && eqb (x .b) (p .b)))
+    go true e = rw (← eqb-true (x .a) (p .a) e) (and-comm (eqb (x .b) (p .b)) (eqb (x .key) (f (x .a) .key)))
+    go false e = sym (and-false (eqb (x .key) (f (x .a) .key)))
+same-tell B f g x p = go (eqb (x .a) (p .b)) refl
+  where
+    go : (u : Bool) → eqb (x .a) (p .b) ≡ u → (u && (eqb (x .b) (p .a) && eqb (x .key) (g (p .b) .key))) ≡ (eqb (x .key) (g (x .a) .key) && (eqb (x .b) (p .a) && u))
+    go true e = rw (← eqb-true (x .a) (p .b) e, and-true (eqb (x .b) (p .a))) (and-comm (eqb (x .b) (p .a)) (eqb (x .key) (g (x .a) .key)))
+    go false e = rw (and-false (eqb (x .b) (p .a)), and-false (eqb (x .key) (g (x .a) .key)))
+
+pub times-tell : (s : Source) (f g : ℕ → Item) (x : Told) (ps : List Pair) → times x (tellAll s f g ps) ≡ bit (keyed s f g x) * count (place s x) ps
+times-tell s f g x [] = omega arith
+times-tell s f g x (p ∷ ps) = rw (same-tell s f g x p, times-tell s f g x ps) (go (keyed s f g x))
+  where
+    go : (u : Bool) → bit (u && at (place s x) p) + bit u * count (place s x) ps ≡ bit u * (bit (at (place s x) p) + count (place s x) ps)
+    go true = omega arith
+    go false = omega arith
+
+pub count-keep : (u : Pair → Bool) (p : Pair) (ps : List Pair) → count p (keep u ps) ≡ bit (u p) * count p ps
+count-keep u p [] = omega arith
+count-keep u p (q ∷ ps) = go (at p q) (u q) refl refl (count-keep u p ps)
+  where
+    go : (v w : Bool) → at p q ≡ v → u q ≡ w → count p (keep u ps) ≡ bit (u p) * count p ps
+        → count p (cond w (q ∷ keep u ps) (keep u ps)) ≡ bit (u p) * (bit v + count p ps)
+    go true w e f ih = rw (ap u (at-eq p q e) ∙ f) (own w (rw (ap u (at-eq p q e) ∙ f) at ih))
+      where
+        own : (w : Bool) → count p (keep u ps) ≡ bit w * count p ps → count p (cond w (q ∷ keep u ps) (keep u ps)) ≡ bit w * (1 + count p ps)
+        own true ih = rw e (omega arith)
+        own false ih = omega arith
+    go false true e f ih = rw e (omega arith)
+    go false false e f ih = omega arith
+
+-- from j on, n numbers
+abbrev within : ℕ → ℕ → ℕ → Bool
+within j n b = leb j b && ltb b (j + n)
+
+within-none : (j b : ℕ) → within j 0 b ≡ false
+within-none j b = go (leb j b) refl
+  where
+    go : (u : Bool) → leb j b ≡ u → (u && ltb b (j + 0)) ≡ false
+    go true e = le-ltb b (j + 0) (omega (arith, tests))
+    go false e = refl
+
+within-suc : (j n b : ℕ) → bit (eqb b j) + bit (within (suc j) n b) ≡ bit (within j (suc n) b)
+within-suc j n b = let f : suc j + n ≡ j + suc n = omega arith in rw f (go (eqb b j) refl)
+  where
+    go : (u : Bool) → eqb b j ≡ u → bit u + bit (leb (suc j) b && ltb b (j + suc n)) ≡ bit (within j (suc n) b)
+    go true e = let g : b ≡ j = eqb-true b j e in
+        rw (lt-leb (suc j) b (omega arith), le-leb j b (omega arith), lt-ltb b (j + suc n) (omega arith))
+    go false e = zero-add _ ∙ ap (λ (v : Bool). bit (v && ltb b (j + suc n))) (next (leb j b) refl)
+      where
+        next : (v : Bool) → leb j b ≡ v → leb (suc j) b ≡ v
+        next true h = le-leb (suc j) b (omega (arith, tests))
+        next false h = lt-leb (suc j) b (omega (arith, tests))
+
+count-across : (p : Pair) (i j m : ℕ) → count p (across i j m) ≡ bit (eqb (p .a) i && within j m (p .b))
+count-across p i j zero = rw (within-none j (p .b), and-false)
+count-across p i j (suc m) = rw (count-across p i (suc j) m) (go (eqb (p .a) i))
+  where
+    go : (u : Bool) → bit (u && eqb (p .b) j) + bit (u && within (suc j) m (p .b)) ≡ bit (u && within j (suc m) (p .b))
+    go true = within-suc j m (p .b)
+    go false = refl
+
+within-all : (m b : ℕ) → within 0 m b ≡ ltb b m
+within-all m b = rw (leb·zero b, zero-add m)
+
+count-down : (p : Pair) (i n m : ℕ) → count p (down i n m) ≡ bit (within i n (p .a) && ltb (p .b) m)
+count-down p i zero m = rw (within-none i (p .a))
+count-down p i (suc n) m =
+    count-append (across i 0 m) (down (suc i) n m) ∙ rw (count-across p i 0 m, count-down p (suc i) n m, within-all m (p .b)) (go (ltb (p .b) m))
+  where
+    count-append : (l k : List Pair) → count p (l ++ k) ≡ count p l + count p k
+    count-append [] k = omega arith
+    count-append (q ∷ l) k = omega (arith, count-append l k)
+
+    go : (u : Bool) → bit (eqb (p .a) i && u) + bit (within (suc i) n (p .a) && u) ≡ bit (within i (suc n) (p .a) && u)
+    go true = rw (and-true (eqb (p .a) i), and-true (within (suc i) n (p .a)), and-true (within i (suc n) (p .a))) (within-suc i n (p .a))
+    go false = rw (and-false (eqb (p .a) i), and-false (within (suc i) n (p .a)), and-false (within i (suc n) (p .a)))
+
+pub count-every : (t : Table) (p : Pair) → count p (every t) ≡ bit (inside t p)
+count-every t p = count-down p 0 (t .a .count) (t .b .count) ∙ rw (within-all (t .a .count) (p .a))
+
+-- ---- what an arrival, a run and a drain write, counted
+
+pub times-arrival : (s : Source) (x : Told) (n : ℕ) (item : Item) (g : ℕ → Row) (m : ℕ)
+    → times x (tellAll s (λ i. item) (λ j. g j .item) (arrivalPairs n item g m))
+    ≡ bit (keyed s (λ i. item) (λ j. g j .item) x) * (bit (met item (g (place s x .b))) * bit (eqb (place s x .a) n && ltb (place s x .b) m))
+unfolding arrivalPairs
+times-arrival s x n item g m = rw (times-tell, count-keep (λ p. met item (g (p .b))) (place s x) (across n 0 m), count-across (place s x) n 0 m, within-all m (place s x .b))
+
+pub times-wanted : (s : Source) (scope : Scope) (t : Table) (x : Told)
+    → times x (told s t (wantedPairs scope t)) ≡ bit (keyed s (λ i. t .a .row i .item) (λ j. t .b .row j .item) x) * (bit (wanted scope t (place s x)) * bit (inside t (place s x)))
+unfolding wantedPairs
+times-wanted s scope t x = rw (times-tell, count-keep (wanted scope t) (place s x) (every t), count-every t (place s x))
