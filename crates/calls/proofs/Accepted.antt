@@ -16,16 +16,16 @@ use Rattle.stamps.specs.Keys.{itemOf}
 use Rattle.stamps.specs.Sources.{other}
 use Rattle.sheets.specs.declared.layout.Told.{Told}
 use Rattle.sheets.specs.Layout.{roomOf, rowsNeed}
-use Rattle.sheets.specs.Pairs.{Side, told, putFrom}
-use Rattle.sheets.specs.Rows.{latest, flushed}
+use Rattle.sheets.specs.Pairs.{Side}
+use Rattle.sheets.specs.Rows.{flushed}
 use Rattle.sheets.proofs.Changes.{items, newRow, flushedSide, storedSide}
 use Rattle.sheets.proofs.Laws.{flushed-item}
 use Rattle.calls.specs.Answers.{refused}
-use Rattle.calls.specs.Calls.{after, arrives, joins, evicts, runs, drains, effect, settle, afterCall}
+use Rattle.calls.specs.Calls.{after, arrives, joins, evicts, tries, runs, drains, effect, settle, afterCall}
 use Rattle.calls.specs.Demand3.{Lent, run, offered, accepted, itemsOf}
-use Rattle.calls.specs.Refusals.{verdict, roomFor, makeRoom, idle, ran, checks}
+use Rattle.calls.specs.Refusals.{verdict, roomFor, makeRoom, idle, checks}
 use Rattle.calls.specs.Work.{same}
-use Rattle.calls.specs.World.{World, countOf, sheetOf, rowsOf, sideOf, seenFrom, flush, store, note, shut, move}
+use Rattle.calls.specs.World.{World, countOf, sheetOf, sideOf, flush, store, note, shut, move}
 use Rattle.calls.specs.declared.types.Call.{Call}
 use Rattle.calls.specs.declared.types.Call.the-variants.{Arrive, Evict, Run, Close, Drain}
 use Rattle.calls.specs.declared.types.Answer.the-variants.{Ran}
@@ -84,7 +84,7 @@ module _ (w : World) (l : List Told) (o : List ℕ) (g : Sits w l) (u : Source) 
   unfolding effect runs note
   run-items s q = unchanged (effect w o (Run s q) .world) (go (idle w s q))
     where
-      go : (v : Bool) → itemsOf (cond v (after (Ran 0) w o) (after (Ran (length (ran s q w))) (note s q (latest (w .session .parts) q (rowsOf w s) (countOf w s)) w) (putFrom 0 (told s (seenFrom s w) (ran s q w)) o)) .world) u ≡ itemsOf w u
+      go : (v : Bool) → itemsOf (cond v (after (Ran 0) w o) (tries s q w o) .world) u ≡ itemsOf w u
       go true = refl
       go false = refl
 

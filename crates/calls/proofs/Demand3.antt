@@ -28,11 +28,12 @@ use Rattle.sheets.proofs.Rises.{missing-owed, owed-after, take-tell, position-i
 use Rattle.calls.specs.Answers.{codeOf}
 use Rattle.calls.specs.Calls.{After, owed, drains, effect, settle, afterCall, opens, fresh}
 use Rattle.calls.specs.Demand3.{Lent, wrote, run, opened, accepted, itemsOf, pairOf, owes, left, drainsOf, Rooms, ceil, Drained, Demand3, now, written}
-use Rattle.calls.specs.Refusals.{Check, check, verdict, sizesFit, sessionFits, bothClosed, idle, ran, roomCheck, checks}
-use Rattle.calls.specs.World.{World, countOf, rowsOf, sideOf, seenFrom, move}
+use Rattle.calls.specs.Refusals.{Check, verdict, tryChecks, sizesFit, sessionFits, bothClosed, idle, checks}
+use Rattle.calls.specs.Work.{world}
+use Rattle.calls.specs.World.{World, countOf, rowsOf, seenFrom, move}
 use Rattle.calls.specs.declared.types.Call.{Call}
 use Rattle.calls.specs.declared.types.Call.the-variants.{Arrive, Evict, Run, Close, Drain}
-use Rattle.calls.specs.declared.types.Why.the-variants.{BadSheet, ListFull}
+use Rattle.calls.specs.declared.types.Why.the-variants.{BadSheet}
 use Rattle.calls.specs.declared.types.Answer.{Answer}
 use Rattle.calls.specs.declared.types.Answer.the-variants.{Opened, More, Done, Refused}
 use Rattle.calls.specs.declared.types.Reply.{Reply}
@@ -53,9 +54,13 @@ no-counts zero k = refl
 no-counts (suc n) zero = refl
 no-counts (suc n) (suc k) = no-counts n k
 
-sits-fresh : (p m n : ℕ) (a b probe : List ℕ) → sizesFit p m n (length a) (length b) (length probe) ≡ true → Sits (record { session = fresh p m n; a = a; b = b; probe = probe }) []
+sits-fresh : (p m n : ℕ) (a b probe : List ℕ) → sizesFit p m n (length a) (length b) (length probe) ≡ true → Sits (world (fresh p m n) a b probe) []
 sits-fresh p m n a b probe e = record {
-  sound = record { under = λ s. record { rows = none s; lists = λ q. empty (list-none p (replicate 32 0) probe s q (no-counts 32 (listNo p s q))) }; start = λ s k. refl; tells = λ x. rw (leb·suc-zero (x .a)) };
+  sound = record {
+    under = λ s. record { rows = none s; lists = λ q. empty (list-none p (replicate 32 0) probe s q (no-counts 32 (listNo p s q))) };
+    start = λ s k. refl;
+    tells = λ x. rw (leb·suc-zero (x .a));
+  };
   fit = record {
     sizes = sizes-are p m n (length a) (length b) (length probe) e;
     few = few;
@@ -67,7 +72,7 @@ sits-fresh p m n a b probe e = record {
 }
   where
     w : World
-    w = record { session = fresh p m n; a = a; b = b; probe = probe }
+    w = world (fresh p m n) a b probe
 
     none : (s : Source) (i : ℕ) → i < countOf w s → (rowsOf w s i .ats ≤ 0) × (rowsOf w s i .dts ≤ 0)
     none A i h = absurd (omega arith)
@@ -80,25 +85,29 @@ sits-fresh p m n a b probe e = record {
     empty : {es : List Entry} → es ≡ [] → Below 0 es
     empty h = rw h tt
 
-sits-opened : (p m n : ℕ) (a b probe : List ℕ) → opens p m n (length a) (length b) (length probe) .answer ≡ Opened → Sits (opened p m n a b probe) []
+-- an opening that was accepted handed over a fresh record
+opened-fresh : (p m n : ℕ) (a b probe : List ℕ) → opens p m n (length a) (length b) (length probe) .answer ≡ Opened
+    → (sizesFit p m n (length a) (length b) (length probe) ≡ true) × (opened p m n a b probe ≡ world (fresh p m n) a b probe)
 unfolding opens
-sits-opened p m n a b probe = go (sizesFit p m n (length a) (length b) (length probe)) (sits-fresh p m n a b probe)
+opened-fresh p m n a b probe = go (sizesFit p m n (length a) (length b) (length probe))
   where
-    go : (u : Bool) → (u ≡ true → Sits (record { session = fresh p m n; a = a; b = b; probe = probe }) [])
-        → cond {A = Reply} u (record { answer = Opened; session = fresh p m n }) (record { answer = Refused BadSheet; session = fresh 0 0 0 }) .answer ≡ Opened
-        → Sits (record { session = cond {A = Reply} u (record { answer = Opened; session = fresh p m n }) (record { answer = Refused BadSheet; session = fresh 0 0 0 }) .session; a = a; b = b; probe = probe }) []
-    go true g h = g refl
-    go false g h = let z : _≡_ {A = ℕ} 0 1 = cc in absurd (omega arith)
+    said : Bool → Reply
+    said u = cond u (record { answer = Opened; session = fresh p m n }) (record { answer = Refused BadSheet; session = fresh 0 0 0 })
 
-no-items : (p m n : ℕ) (a b probe : List ℕ) (s : Source) → itemsOf (opened p m n a b probe) s ≡ []
-unfolding opens values
-no-items p m n a b probe s = go s (sizesFit p m n (length a) (length b) (length probe))
+    go : (u : Bool) → said u .answer ≡ Opened → (u ≡ true) × (world (said u .session) a b probe ≡ world (fresh p m n) a b probe)
+    go true h = (refl, refl)
+    go false h = let z : _≡_ {A = ℕ} 0 1 = cc in absurd (omega arith)
+
+sits-opened : (p m n : ℕ) (a b probe : List ℕ) → opens p m n (length a) (length b) (length probe) .answer ≡ Opened → Sits (opened p m n a b probe) []
+sits-opened p m n a b probe h = let f = opened-fresh p m n a b probe h in subst (λ (w : World). Sits w []) (sym (f .1)) (sits-fresh p m n a b probe (f .0))
+
+no-items : (p m n : ℕ) (a b probe : List ℕ) → opens p m n (length a) (length b) (length probe) .answer ≡ Opened → (s : Source) → itemsOf (opened p m n a b probe) s ≡ []
+unfolding values
+no-items p m n a b probe h s = ap (λ (w : World). itemsOf w s) (opened-fresh p m n a b probe h .1) ∙ go s
   where
-    go : (s : Source) (u : Bool) → itemsOf (record { session = cond {A = Reply} u (record { answer = Opened; session = fresh p m n }) (record { answer = Refused BadSheet; session = fresh 0 0 0 }) .session; a = a; b = b; probe = probe }) s ≡ []
-    go A true = refl
-    go A false = refl
-    go B true = refl
-    go B false = refl
+    go : (s : Source) → itemsOf (world (fresh p m n) a b probe) s ≡ []
+    go A = refl
+    go B = refl
 
 sits-run : (w : World) (l : List Told) (cs : List Lent) → Sits w l → Sits (run w l cs .world) (run w l cs .written)
 sits-run w l [] g = g
@@ -167,7 +176,8 @@ module _ (w : World) (l : List Told) (g : Sits w l) (o : List ℕ) where
   unfolding drains move
   closed-drained = refl
 
-  left-after : bothClosed (w .session) ≡ true → 1 ≤ room → let r = afterCall w o Drain in (length (left (r .world) (l ++ wrote r)) ≡ length (left w l) - room) × (bothClosed (r .world .session) ≡ true)
+  left-after : bothClosed (w .session) ≡ true → 1 ≤ room → let r = afterCall w o Drain in
+      (length (left (r .world) (l ++ wrote r)) ≡ length (left w l) - room) × (bothClosed (r .world .session) ≡ true)
   left-after c h = (
     length-left (afterCall w o Drain .world) (l ++ wrote (afterCall w o Drain)) (sits-call w l o g Drain)
         ∙ ap (λ (r : After). length (owed (r .world))) (drain-is c h) ∙ ap length owed-drained ∙ length-drop room (owed w) ∙ ap (λ (n : ℕ). n - room) (sym (length-left w l g)),
@@ -248,7 +258,7 @@ fits-now w l g o c e = go c (refused-by w o c BadSheet e)
     good : not (sessionFits (w .session) (length (w .a)) (length (w .b)) (length (w .probe))) ≡ false
     good = rw (fits-hold w (g .fit))
 
-    rest : (s : Source) (q : ℕ) (u : Bool) → Others (cond u [] (check (leb 32 (length (sideOf w s .list q))) ListFull ∷ roomCheck (roomOf (length o)) (length (ran s q w)) ∷ []))
+    rest : (s : Source) (q : ℕ) (u : Bool) → Others (cond u [] (tryChecks w s q (roomOf (length o))))
     rest s q true = tt
     rest s q false = (λ h. omega arith, (λ h. omega arith, tt))
 
@@ -261,14 +271,27 @@ fits-now w l g o c e = go c (refused-by w o c BadSheet e)
 
 -- ---- the demand
 
-pub demand-3 : (p m n : ℕ) (a b probe : List ℕ) → opens p m n (length a) (length b) (length probe) .answer ≡ Opened → (cs : List Lent) → Demand3 (opened p m n a b probe) cs
-demand-3 p m n a b probe e cs = let start : World = opened p m n a b probe in let g : Sits (now start cs) (written start cs) = sits-run start [] cs (sits-opened p m n a b probe e) in
-    record {
-      rows = λ s. run-accepts start [] cs (sits-opened p m n a b probe e) s ∙ ap (λ (k : List Item). k ++ accepted s start cs) (no-items p m n a b probe s);
-      once = λ x. rw (g .sound .tells x) (half-le (isPair (seenFrom A (now start cs)) x) _);
-      prompt = prompt-now (now start cs) (written start cs) g;
-      drain = λ c o h. drained (now start cs) (written start cs) g o c h;
-      drains = λ c r h os k o e. drains-say r h o e os k (now start cs) (written start cs) g c ∙ ap (λ (u : Bool). cond u Done More (min r (length (left (now start cs) (written start cs)) - length os * r))) (ceil-le (length (left (now start cs) (written start cs))) r (suc (length os)) h);
-      whole = whole-now (now start cs) (written start cs) g;
-      fits = fits-now (now start cs) (written start cs) g;
-    }
+module _ (p m n : ℕ) (a b probe : List ℕ) (e : opens p m n (length a) (length b) (length probe) .answer ≡ Opened) (calls : List Lent) where
+  abbrev start : World
+  start = opened p m n a b probe
+
+  -- the box after the calls, and what they wrote
+  abbrev w : World
+  w = now start calls
+
+  abbrev l : List Told
+  l = written start calls
+
+  sits : Sits w l
+  sits = sits-run start [] calls (sits-opened p m n a b probe e)
+
+  pub demand-3 : Demand3 start calls
+  demand-3 = record {
+    rows = λ s. run-accepts start [] calls (sits-opened p m n a b probe e) s ∙ ap (λ (k : List Item). k ++ accepted s start calls) (no-items p m n a b probe e s);
+    once = λ x. rw (sits .sound .tells x) (half-le (isPair (seenFrom A w) x) _);
+    prompt = prompt-now w l sits;
+    drain = λ c o h. drained w l sits o c h;
+    drains = λ c r h os k o f. drains-say r h o f os k w l sits c ∙ ap (λ (u : Bool). cond u Done More (min r (length (left w l) - length os * r))) (ceil-le (length (left w l)) r (suc (length os)) h);
+    whole = whole-now w l sits;
+    fits = fits-now w l sits;
+  }

@@ -124,8 +124,22 @@ fit-note s q last w f z n = fit-change s w (note s q last w) _ _ (note-seen s q 
 
 pub fit-shut : (s : Source) (w : World) → Fit w → Fit (shut s w)
 unfolding shut
-fit-shut A w f = record { sizes = f .sizes; few = both-sources (λ u. countOf (shut A w) u ≤ w .session .limit) A (f .few A) (f .few B); clock = f .clock; next = f .next; counted = f .counted; short = f .short }
-fit-shut B w f = record { sizes = f .sizes; few = both-sources (λ u. countOf (shut B w) u ≤ w .session .limit) B (f .few B) (f .few A); clock = f .clock; next = f .next; counted = f .counted; short = f .short }
+fit-shut A w f = record {
+  sizes = f .sizes;
+  few = both-sources (λ u. countOf (shut A w) u ≤ w .session .limit) A (f .few A) (f .few B);
+  clock = f .clock;
+  next = f .next;
+  counted = f .counted;
+  short = f .short;
+}
+fit-shut B w f = record {
+  sizes = f .sizes;
+  few = both-sources (λ u. countOf (shut B w) u ≤ w .session .limit) B (f .few B) (f .few A);
+  clock = f .clock;
+  next = f .next;
+  counted = f .counted;
+  short = f .short;
+}
 
 pub fit-move : (k : ℕ) (w : World) → Fit w → k ≤ countOf w A * countOf w B → Fit (move k w)
 unfolding move

@@ -13,13 +13,12 @@ use Rattle.stamps.specs.declared.Item.{Item}
 use Rattle.stamps.specs.Counting.Laws.{tally-le}
 use Rattle.stamps.specs.Keys.{itemOf}
 use Rattle.sheets.specs.Layout.{roomOf}
-use Rattle.sheets.specs.Rows.{hot, latest}
-use Rattle.sheets.specs.Pairs.{told, putFrom}
+use Rattle.sheets.specs.Rows.{hot}
 use Rattle.calls.specs.Answers.{refused}
-use Rattle.calls.specs.Calls.{After, after, joins, arrives, evicts, runs, owed, drains, effect, settle, afterCall}
-use Rattle.calls.specs.Refusals.{verdict, roomFor, makeRoom, idle, ran, checks}
+use Rattle.calls.specs.Calls.{After, after, joins, arrives, evicts, tries, runs, owed, drains, effect, settle, afterCall}
+use Rattle.calls.specs.Refusals.{verdict, roomFor, makeRoom, idle, checks}
 use Rattle.calls.specs.Work.{leaves, world}
-use Rattle.calls.specs.World.{World, countOf, rowsOf, seenFrom, flush, store, note, shut, move}
+use Rattle.calls.specs.World.{World, countOf, rowsOf, flush, store, note, shut, move}
 use Rattle.calls.specs.declared.types.Call.{Call}
 use Rattle.calls.specs.declared.types.Call.the-variants.{Arrive, Evict, Run, Close, Drain}
 use Rattle.calls.specs.declared.types.Why.{Why}
@@ -50,7 +49,7 @@ accepts w o (Arrive s m) = refl
 accepts w o (Evict s q) = refl
 accepts w o (Run s q) = go (idle w s q)
   where
-    go : (u : Bool) → refused ((cond u (after (Ran 0) w o) (after (Ran (length (ran s q w))) (note s q (latest (w .session .parts) q (rowsOf w s) (countOf w s)) w) (putFrom 0 (told s (seenFrom s w) (ran s q w)) o))) .answer) ≡ false
+    go : (u : Bool) → refused ((cond u (after (Ran 0) w o) (tries s q w o)) .answer) ≡ false
     go true = refl
     go false = refl
 accepts w o (Close s) = refl
@@ -99,7 +98,7 @@ effect-clock w o (Arrive s m) h = omega (arith, store-clock s (itemOf m) (makeRo
 effect-clock w o (Evict s q) h = omega (arith, flush-clock s q w (h s))
 effect-clock w o (Run s q) h = go (idle w s q)
   where
-    go : (u : Bool) → (cond u (after (Ran 0) w o) (after (Ran (length (ran s q w))) (note s q (latest (w .session .parts) q (rowsOf w s) (countOf w s)) w) (putFrom 0 (told s (seenFrom s w) (ran s q w)) o))) .world .session .clock ≤ w .session .clock + 4097
+    go : (u : Bool) → (cond u (after (Ran 0) w o) (tries s q w o)) .world .session .clock ≤ w .session .clock + 4097
     go true = omega arith
     go false = omega arith
 effect-clock w o (Close A) h = omega arith

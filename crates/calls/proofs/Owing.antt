@@ -77,8 +77,16 @@ sound-note s q w l h z g = sound-change s w (note s q _ w) _ _ l _ (note-seen s 
 
 pub sound-shut : (s : Source) (w : World) (l : List Told) → Sound w l → Sound (shut s w) l
 unfolding shut
-sound-shut A w l g = record { under = both-sources (λ v. Under (w .session .clock) (sideOf (shut A w) v)) A (g .under A) (g .under B); start = both-sources (λ v. closedOf (shut A w) v ≡ false → w .session .next ≡ 0) A (λ e. absurd (true≢false e)) (g .start B); tells = g .tells }
-sound-shut B w l g = record { under = both-sources (λ v. Under (w .session .clock) (sideOf (shut B w) v)) B (g .under B) (g .under A); start = both-sources (λ v. closedOf (shut B w) v ≡ false → w .session .next ≡ 0) B (λ e. absurd (true≢false e)) (g .start A); tells = g .tells }
+sound-shut A w l g = record {
+  under = both-sources (λ v. Under (w .session .clock) (sideOf (shut A w) v)) A (g .under A) (g .under B);
+  start = both-sources (λ v. closedOf (shut A w) v ≡ false → w .session .next ≡ 0) A (λ e. absurd (true≢false e)) (g .start B);
+  tells = g .tells;
+}
+sound-shut B w l g = record {
+  under = both-sources (λ v. Under (w .session .clock) (sideOf (shut B w) v)) B (g .under B) (g .under A);
+  start = both-sources (λ v. closedOf (shut B w) v ≡ false → w .session .next ≡ 0) B (λ e. absurd (true≢false e)) (g .start A);
+  tells = g .tells;
+}
 
 pub sound-move : (r next : ℕ) (w : World) (l : List Told) → Parts (seenFrom A w) (w .session .next) r (countOf w A * countOf w B) next (owed w)
     → ((s : Source) → closedOf w s ≡ true) → Sound w l → Sound (move next w) (l ++ told A (seenFrom A w) (take r (owed w)))

@@ -18,6 +18,7 @@ use Rattle.sheets.specs.Rows.{portionRows, flushed, lay}
 use Rattle.sheets.proofs.Laws.{length-lay, rows-lay, rows-put}
 use Rattle.sheets.proofs.Changes.{flushedSide, storedSide, newRow, notedSide, withA}
 use Rattle.sheets.proofs.Noted.{list-own, list-facing}
+use Rattle.calls.specs.declared.types.Session.{Session}
 use Rattle.calls.specs.World.{World, countOf, sheetOf, closedOf, rowsOf, sideOf, seenFrom, flush, store, note}
 
 -- what holds of a source and of the other one holds of both
@@ -36,8 +37,13 @@ pub record Extent : Type 0 where
   pub b : ℕ
   pub probe : ℕ
 
+-- of a record and sheets of these lengths
+abbrev sized : Session → ℕ → ℕ → ℕ → Extent
+sized t a b probe = record { parts = t .parts; slots = t .slots; limit = t .limit; a = a; b = b; probe = probe }
+
+-- of a box
 abbrev pub extent : World → Extent
-extent w = let t = w .session in record { parts = t .parts; slots = t .slots; limit = t .limit; a = length (w .a); b = length (w .b); probe = length (w .probe) }
+extent w = sized (w .session) (length (w .a)) (length (w .b)) (length (w .probe))
 
 -- w′ is w but for the clock and what the sheets hold of source s
 pub record Seen (s : Source) (w w′ : World) (clock : ℕ) (d : Side) : Type 0 where
@@ -53,11 +59,12 @@ pub record Seen (s : Source) (w w′ : World) (clock : ℕ) (d : Side) : Type 0 
 pub seen-from : (s : Source) (w w′ : World) (clock : ℕ) (d : Side) → Seen s w w′ clock d → seenFrom s w′ ≡ withA (seenFrom s w) d
 seen-from s w w′ clock d h = λ i. record { parts = h .same-extent i .parts; a = h .own i; b = h .facing i }
 
--- the extent with another length of one row sheet, and a side with other rows
+-- the extent with another length of one row sheet
 abbrev resized : Source → World → ℕ → Extent
-resized A w n = let t = w .session in record { parts = t .parts; slots = t .slots; limit = t .limit; a = n; b = length (w .b); probe = length (w .probe) }
-resized B w n = let t = w .session in record { parts = t .parts; slots = t .slots; limit = t .limit; a = length (w .a); b = n; probe = length (w .probe) }
+resized A w n = sized (w .session) n (length (w .b)) (length (w .probe))
+resized B w n = sized (w .session) (length (w .a)) n (length (w .probe))
 
+-- a side with other rows
 abbrev rowed : ℕ → Side → (ℕ → Row) → Side
 rowed n d f = record { count = n; row = f; list = d .list }
 
@@ -71,8 +78,24 @@ flush-seen s q w h = go s (rows-lay _ (countOf w s) (sheetOf w s) h) (length-lay
 
     go : (s : Source) → rowAt (lay (rows s) (countOf w s) (sheetOf w s)) ≡ upTo (countOf w s) (rows s) (rowsOf w s) → length (lay (rows s) (countOf w s) (sheetOf w s)) ≡ length (sheetOf w s)
         → Seen s w (flush s q w) (w .session .clock + portionRows (w .session .parts) q (rowsOf w s) (countOf w s)) (flushedSide (w .session .parts) q (w .session .clock) (sideOf w s))
-    go A e n = record { own = ap (rowed (countOf w A) (sideOf w A)) e; facing = refl; same-extent = ap (resized A w) n; new-clock = refl; same-next = refl; same-closed = λ u. refl; same-counted = refl }
-    go B e n = record { own = ap (rowed (countOf w B) (sideOf w B)) e; facing = refl; same-extent = ap (resized B w) n; new-clock = refl; same-next = refl; same-closed = λ u. refl; same-counted = refl }
+    go A e n = record {
+      own = ap (rowed (countOf w A) (sideOf w A)) e;
+      facing = refl;
+      same-extent = ap (resized A w) n;
+      new-clock = refl;
+      same-next = refl;
+      same-closed = λ u. refl;
+      same-counted = refl;
+    }
+    go B e n = record {
+      own = ap (rowed (countOf w B) (sideOf w B)) e;
+      facing = refl;
+      same-extent = ap (resized B w) n;
+      new-clock = refl;
+      same-next = refl;
+      same-closed = λ u. refl;
+      same-counted = refl;
+    }
 
 pub store-seen : (s : Source) (item : Item) (w : World) → rowsNeed (suc (countOf w s)) ≤ length (sheetOf w s)
     → Seen s w (store s item w) (suc (w .session .clock)) (storedSide item (w .session .clock) (sideOf w s))
@@ -84,8 +107,24 @@ store-seen s item w h = go s (rows-put (sheetOf w s) (countOf w s) new h) (lengt
 
     go : (s : Source) → rowAt (putRow (countOf w s) new (sheetOf w s)) ≡ storedSide item (w .session .clock) (sideOf w s) .row → length (putRow (countOf w s) new (sheetOf w s)) ≡ length (sheetOf w s)
         → Seen s w (store s item w) (suc (w .session .clock)) (storedSide item (w .session .clock) (sideOf w s))
-    go A e n = record { own = ap (rowed (suc (countOf w A)) (sideOf w A)) e; facing = refl; same-extent = ap (resized A w) n; new-clock = refl; same-next = refl; same-closed = both-sources _ A refl refl; same-counted = refl }
-    go B e n = record { own = ap (rowed (suc (countOf w B)) (sideOf w B)) e; facing = refl; same-extent = ap (resized B w) n; new-clock = refl; same-next = refl; same-closed = both-sources _ B refl refl; same-counted = refl }
+    go A e n = record {
+      own = ap (rowed (suc (countOf w A)) (sideOf w A)) e;
+      facing = refl;
+      same-extent = ap (resized A w) n;
+      new-clock = refl;
+      same-next = refl;
+      same-closed = both-sources _ A refl refl;
+      same-counted = refl;
+    }
+    go B e n = record {
+      own = ap (rowed (suc (countOf w B)) (sideOf w B)) e;
+      facing = refl;
+      same-extent = ap (resized B w) n;
+      new-clock = refl;
+      same-next = refl;
+      same-closed = both-sources _ B refl refl;
+      same-counted = refl;
+    }
 
 -- what the entry needs: a list of the record that is not full, and a place for it in the probe sheet
 pub record Listable (s : Source) (q : ℕ) (w : World) : Type 0 where
@@ -104,7 +143,7 @@ note-seen s q last w h = let e : Entry = record { last = last; probe = w .sessio
           (fun-ext (list-own (w .session .parts) (w .session .counts) (w .probe) s q e (h .part) (h .counted) (h .long) (h .short) (h .free)));
       facing = ap (λ (f : ℕ → List Entry). record { count = countOf w (other s); row = rowsOf w (other s); list = f })
           (fun-ext (list-facing (w .session .parts) (w .session .counts) (w .probe) s q e (h .part) (h .counted) (h .long) (h .short) (h .free)));
-      same-extent = ap (λ (n : ℕ). record { parts = w .session .parts; slots = w .session .slots; limit = w .session .limit; a = length (w .a); b = length (w .b); probe = n }) (length-putEntry (listNo (w .session .parts) s q) (getD (w .session .counts) (listNo (w .session .parts) s q) 0) e (w .probe));
+      same-extent = ap (sized (w .session) (length (w .a)) (length (w .b))) (length-putEntry (listNo (w .session .parts) s q) _ e (w .probe));
       new-clock = refl;
       same-next = refl;
       same-closed = λ u. refl;

@@ -2,10 +2,10 @@
 -- The victim enters as some portion. Assumes nothing.
 use mathlib.Core.Path.{_≡_, refl, sym, ap, _∙_}
 use mathlib.Core.Bool.{Bool, true, false, cond, not, _&&_}
-use mathlib.Core.List.{List, [], _∷_, _++_, append-nil}
+use mathlib.Core.List.{List, [], _++_, append-nil}
 use Prim.Native.Nat.{ℕ, suc, _+_, _*_, _≤_, _<_}
 use native.Mathlib.Omega.{arith}
-use lib.Dec.{ltb, leb}
+use lib.Dec.{ltb}
 use lib.ListN.{length, take, length-take}
 use borrow.Author.Tests.{not-false, leb-false, ltb-false}
 use Rattle.stamps.specs.declared.Source.{Source}
@@ -18,17 +18,15 @@ use Rattle.stamps.specs.Sources.{other}
 use Rattle.sheets.specs.declared.layout.Told.{Told}
 use Rattle.sheets.specs.Layout.{rowsNeed, roomOf}
 use Rattle.sheets.specs.Pairs.{Pair, tellAll, told, putFrom, pairsAt}
-use Rattle.sheets.specs.Rows.{latest}
 use Rattle.sheets.proofs.Laws.{read-put, length-tellAll}
 use Rattle.sheets.proofs.Rises.{Parts, drain-parts}
 use Rattle.calls.specs.Answers.{pairsOf}
-use Rattle.calls.specs.Calls.{After, after, joins, arrives, evicts, runs, owed, drains, effect, settle, afterCall}
+use Rattle.calls.specs.Calls.{After, after, joins, arrives, evicts, tries, runs, owed, drains, effect, settle, afterCall}
 use Rattle.calls.specs.Demand3.{wrote}
-use Rattle.calls.specs.Refusals.{check, verdict, roomFor, makeRoom, arrived, idle, ran, bothClosed, portionChecks, roomCheck, checks}
-use Rattle.calls.specs.World.{World, countOf, sheetOf, closedOf, rowsOf, sideOf, seenFrom, flush, note, shut, move}
+use Rattle.calls.specs.Refusals.{verdict, tryChecks, roomFor, makeRoom, arrived, idle, ran, bothClosed, portionChecks, checks}
+use Rattle.calls.specs.World.{World, countOf, sheetOf, closedOf, rowsOf, seenFrom, flush, shut, move}
 use Rattle.calls.specs.declared.types.Call.{Call}
 use Rattle.calls.specs.declared.types.Call.the-variants.{Arrive, Evict, Run, Close, Drain}
-use Rattle.calls.specs.declared.types.Why.the-variants.{ListFull}
 use Rattle.calls.specs.declared.types.Answer.the-variants.{Ran, More, Done}
 use Rattle.calls.specs.declared.refusals.Verdict.{Verdict}
 use Rattle.calls.specs.declared.refusals.Verdict.the-variants.{Good, No}
@@ -118,8 +116,8 @@ module _ (w : World) (l : List Told) (o : List ℕ) (g : Sits w l) where
   sits-run s q h = go (idle w s q) h
     where
       go : (u : Bool) → verdict (portionChecks (w .session) q (length (w .a)) (length (w .b)) (length (w .probe))
-          ++ cond u [] (check (leb 32 (length (sideOf w s .list q))) ListFull ∷ roomCheck (roomOf (length o)) (length (ran s q w)) ∷ [])) ≡ Good
-          → Goes (cond u (after (Ran 0) w o) (after (Ran (length (ran s q w))) (note s q (latest (w .session .parts) q (rowsOf w s) (countOf w s)) w) (putFrom 0 (told s (seenFrom s w) (ran s q w)) o)))
+          ++ cond u [] (tryChecks w s q (roomOf (length o)))) ≡ Good
+          → Goes (cond u (after (Ran 0) w o) (tries s q w o))
       go true h = nothing w g
       go false h = let h₁ = verdict-rest _ _ h in let h₂ = verdict-rest _ _ h₁ in let h₃ = verdict-rest _ _ h₂ in
           let n : Listable s q w = listable s q w (g .fit) (leb-false _ _ (verdict-first _ _ h₁)) (leb-false _ _ (verdict-first _ _ h₃)) in

@@ -51,12 +51,14 @@ arrives s item w o = joins s item (makeRoom (roomFor w) w) o
 unfoldable pub evicts : Source → ℕ → World → List ℕ → After
 evicts s q w o = after (Flushed (portionRows (w .session .parts) q (rowsOf w s) (countOf w s))) (flush s q w) o
 
--- "nothing is written, no entry. Otherwise .. one entry is added, even when no pair was written"
+-- "each spooled row .. is tried against each memory row of the other source .. Then one entry is added, even when no pair was written"
+abbrev pub tries : Source → ℕ → World → List ℕ → After
+tries s q w o =
+    after (Ran (length (ran s q w))) (note s q (latest (w .session .parts) q (rowsOf w s) (countOf w s)) w) (putFrom 0 (told s (seenFrom s w) (ran s q w)) o)
+
+-- "If the portion has no spooled row, or its list's last entry has ProbeTS equal to the clock: nothing is written, no entry"
 unfoldable pub runs : Source → ℕ → World → List ℕ → After
-runs s q w o =
-    cond (idle w s q) (after (Ran 0) w o)
-    (after (Ran (length (ran s q w))) (note s q (latest (w .session .parts) q (rowsOf w s) (countOf w s)) w)
-    (putFrom 0 (told s (seenFrom s w) (ran s q w)) o))
+runs s q w o = cond (idle w s q) (after (Ran 0) w o) (tries s q w o)
 
 -- the pairs that drains have still to write
 abbrev pub owed : World → List Pair

@@ -144,8 +144,12 @@ abbrev pub roomCheck : ℕ → ℕ → Check
 roomCheck room n = check (ltb room n) (RoomShort n)
 
 -- a run that has something to do: numbers 6 and 8
+abbrev pub tryChecks : World → Source → ℕ → ℕ → List Check
+tryChecks w s q room = check (leb 32 (length (sideOf w s .list q))) ListFull ∷ roomCheck room (length (ran s q w)) ∷ []
+
+-- any run; where nothing is to be done, none of them
 abbrev pub runChecks : World → Source → ℕ → ℕ → List Check
-runChecks w s q room = cond (idle w s q) [] (check (leb 32 (length (sideOf w s .list q))) ListFull ∷ roomCheck room (length (ran s q w)) ∷ [])
+runChecks w s q room = cond (idle w s q) [] (tryChecks w s q room)
 
 -- every call, with the room of its output
 unfoldable pub checks : World → Call → ℕ → List Check
