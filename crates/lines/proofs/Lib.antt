@@ -1,3 +1,4 @@
+mod AnswerTurns
 mod FieldTurns
 mod GatherTurns
 pub mod Laws
