@@ -13,10 +13,9 @@ use Rattle.lines.proofs.FieldTurns.{left-at}
 pub record Taking (l : List ℕ) (have : ℕ) (input : List ℕ) (from : ℕ) (line : List ℕ) (held i : ℕ) : Type 0 where
   pub same : gather line held (drop i input) i ≡ gather l have (drop from input) from
   pub past : from ≤ i
-  pub within : from ≤ length input → i ≤ length input
 
 pub taking-first : (l : List ℕ) (have : ℕ) (input : List ℕ) (from : ℕ) → Taking l have input from l have from
-taking-first l have input from = record { same = refl; past = omega arith; within = λ b. b }
+taking-first l have input from = record { same = refl; past = omega arith }
 
 module _ (l : List ℕ) (have : ℕ) (input : List ℕ) (from : ℕ) (line : List ℕ) (held i : ℕ) (t : Taking l have input from line held i) where
   pub taking-byte : i < length input → (getD input i 0 ≡ 10 → ⊥) → Taking l have input from (keptLine line held (getD input i 0)) (keptLen held) (i + 1)
@@ -24,14 +23,12 @@ module _ (l : List ℕ) (have : ℕ) (input : List ℕ) (from : ℕ) (line : Lis
   taking-byte b n = record {
     same = sym (rw (left-at input i b, ne-eqb _ _ n)) ∙ t .same;
     past = omega (arith, t .past);
-    within = λ g. omega arith;
   }
 
   pub taking-line : i < length input → getD input i 0 ≡ 10 → Took l have input from (record { have = held; next = i + 1; ended = true }) line
   unfolding gather
   taking-line b e = record {
     same = sym (rw (left-at input i b, eq-eqb _ _ e)) ∙ t .same;
-    within = λ g. omega arith;
     on = λ g. omega (arith, t .past);
   }
 
@@ -39,6 +36,5 @@ module _ (l : List ℕ) (have : ℕ) (input : List ℕ) (from : ℕ) (line : Lis
   unfolding gather
   taking-all b = record {
     same = sym (rw (drop-of-length-le input b)) ∙ t .same;
-    within = t .within;
     on = λ g. omega arith;
   }

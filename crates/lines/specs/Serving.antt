@@ -2,13 +2,13 @@
 use mathlib.Core.Path.{_≡_}
 use mathlib.Core.Bool.{cond}
 use mathlib.Core.List.{List}
-use Prim.Native.Nat.{ℕ, _≤_, _<_}
+use Prim.Native.Nat.{ℕ}
 use lib.Dec.{eqb}
-use lib.ListN.{length, take, drop}
+use lib.ListN.{take}
 use Rattle.lines.specs.declared.answering.State.{State}
 use Rattle.lines.specs.declared.serving.Served.{Served}
 use Rattle.lines.specs.Answering.{Left, answered, silent, Says}
-use Rattle.lines.specs.Gathering.{Held, gather}
+use Rattle.lines.specs.Gathering.{Held}
 
 -- "A line ends at LF": then it is answered
 abbrev pub served : Held → State → List ℕ → List ℕ → List ℕ → List ℕ → Left
@@ -18,14 +18,9 @@ served g t a b probe o = cond (g .how .ended) (answered (take (g .how .have) (g 
 abbrev pub finished : List ℕ → ℕ → State → List ℕ → List ℕ → List ℕ → List ℕ → Left
 finished l have t a b probe o = cond (eqb have 0) (silent t a b probe o) (answered (take have l) t a b probe o)
 
--- g is what the input's bytes from `from` on make of the line: the place after them, and what the buffer holds
+-- g is what a look at the input makes of the line that is begun: its answer where it ended, the place after it, and its buffer
 pub record Serves (g : Held) (t : State) (a b probe o d : List ℕ) (r : Served) (l a′ b′ probe′ o′ e : List ℕ) : Type 0 where
   pub says : Says (served g t a b probe o) d (r .state) (r .bytes) a′ b′ probe′ o′ e
   pub have : r .have ≡ cond (g .how .ended) 0 (g .how .have)
   pub next : r .next ≡ g .how .next
   pub line : l ≡ g .line
-
--- a look at the input stays within it, and gets on wherever there are bytes
-pub record GetsOn (input : List ℕ) (from next : ℕ) : Type 0 where
-  pub within : from ≤ length input → next ≤ length input
-  pub on : from < length input → from < next

@@ -1,5 +1,7 @@
 // The session program: lines from standard input, replies to standard output. What a line means and what it is answered
 // is decided in the crates below; here bytes are read, handed on and written.
+use libc::STDIN_FILENO;
+use libc::STDOUT_FILENO;
 use lines::answering::OUTPUT;
 use lines::answering::REPLY;
 use lines::answering::State;
@@ -31,31 +33,38 @@ struct Going {
     on: bool,
 }
 
-// The bytes gathered, and whether those before them could be written.
+// The bytes gathered, and whether all before them could be written.
 struct Gathered {
     end: usize,
     on: bool,
 }
 
-// A reply put after those gathered; where it does not fit, they are written first.
-fn add(text: &mut [u8; TEXT], end: usize, reply: &[u8]) -> Gathered
-    requires { ⌜ (end ≤ 65536) × (length (now reply) ≤ 65536) ⌝ }
-    ensures { λ r. ⌜ r .end ≤ 65536 ⌝ }
+// Writes the first bytes of a text.
+fn write(text: &[u8], end: usize) -> bool
+    requires { ⌜ end ≤ length (now text) ⌝ }
 {
-    if reply.len() <= TEXT - end {
+    io::write_all(STDOUT_FILENO, &text[..end])
+}
+
+// A reply put after those gathered; where it does not fit, they are written first.
+fn gather(text: &mut [u8], end: usize, reply: &[u8], bytes: usize) -> Gathered
+    requires { ⌜ (end ≤ length (now text)) × (bytes ≤ length (now text)) × (bytes ≤ length (now reply)) ⌝ }
+    ensures { λ r. ⌜ r .end ≤ length (now (text .entry)) ⌝ }
+{
+    if bytes <= text.len() - end {
         return Gathered {
-            end: put_text(text, end, reply),
+            end: put_text(text, end, &reply[..bytes]),
             on: true,
         };
     }
-    let on = io::write_all(libc::STDOUT_FILENO, &text[..end]);
+    let on = write(text, end);
     Gathered {
-        end: put_text(text, 0, reply),
+        end: put_text(text, 0, &reply[..bytes]),
         on,
     }
 }
 
-// Answers the lines that end in a piece of the input, and writes the replies.
+// Answers the lines that end in a piece of the input, and writes their replies.
 fn feed(
     going: Going,
     input: &[u8],
@@ -70,23 +79,120 @@ fn feed(
     let mut line = going.line;
     let mut have = going.have;
     let mut end = 0;
-    let mut on = true;
     let mut at = 0;
     while at < input.len() {
         let served = serve(state, &mut line, have, input, at, a, b, probe, out, reply);
         state = served.state;
         have = served.have;
         at = served.next;
-        let bytes = served.bytes;
-        let gathered = add(text, end, &reply[..bytes]);
+        let gathered = gather(text, end, reply, served.bytes);
         end = gathered.end;
-        on = on & gathered.on;
+        if !gathered.on {
+            return Going {
+                state,
+                line,
+                have,
+                on: false,
+            };
+        }
     }
-    let written = io::write_all(libc::STDOUT_FILENO, &text[..end]);
+    let on = write(text, end);
     Going {
         state,
         line,
         have,
-        on: on & written,
+        on,
     }
+}
+
+// Answers a last line without LF.
+fn end(
+    going: Going,
+    a: &mut [u32],
+    b: &mut [u32],
+    probe: &mut [u32],
+    out: &mut [u32; OUTPUT],
+    reply: &mut [u8; REPLY],
+) -> Going {
+    let line = going.line;
+    let state = going.state;
+    let answered = finish(state, &line, going.have, a, b, probe, out, reply);
+    write(reply, answered.bytes);
+    Going {
+        state,
+        line,
+        have: 0,
+        on: false,
+    }
+}
+
+// Reads once and answers what came. A read that fails ends the program, and so does a write.
+fn turn(
+    going: Going,
+    input: &mut [u8],
+    a: &mut [u32],
+    b: &mut [u32],
+    probe: &mut [u32],
+    out: &mut [u32; OUTPUT],
+    reply: &mut [u8; REPLY],
+    text: &mut [u8; TEXT],
+) -> Going {
+    let got = libc::read(STDIN_FILENO, input);
+    let n = io::count(got, input);
+    if got == 0 {
+        return end(going, a, b, probe, out, reply);
+    }
+    if got < 0 {
+        let mut stopped = going;
+        stopped.on = false;
+        return stopped;
+    }
+    feed(going, &input[..n], a, b, probe, out, reply, text)
+}
+
+// A proved loop has to end, and nothing says that the input does: it counts down from a number that no run uses up.
+fn run(
+    a: &mut [u32],
+    b: &mut [u32],
+    probe: &mut [u32],
+    out: &mut [u32; OUTPUT],
+    input: &mut [u8],
+    reply: &mut [u8; REPLY],
+    text: &mut [u8; TEXT],
+) {
+    let state = new_state();
+    let mut going = Going {
+        state,
+        line: [0; BUFFER],
+        have: 0,
+        on: true,
+    };
+    let mut turns = u64::MAX;
+    while 0 < turns {
+        turns -= 1;
+        going = turn(going, input, a, b, probe, out, reply, text);
+        let on = going.on;
+        if !on {
+            return;
+        }
+    }
+}
+
+fn main() {
+    let mut a = [0; ROWS];
+    let mut b = [0; ROWS];
+    let mut probe = [0; PROBES];
+    let mut out = [0; OUTPUT];
+    let mut input = [0; INPUT];
+    let mut reply = [0; REPLY];
+    let mut text = [0; TEXT];
+    run(
+        &mut a,
+        &mut b,
+        &mut probe,
+        &mut out,
+        &mut input,
+        &mut reply,
+        &mut text,
+    );
 }

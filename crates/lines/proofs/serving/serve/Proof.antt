@@ -10,7 +10,7 @@ take-bytes-requires : tie.Need-take-bytes-requires
 take-bytes-requires c κs = search needs
 
 returns : tie.Need-returns
-returns c = (serves-bytes _ _ _ _ _ _ _ _ _ (c .before .before .take-bytes .ensures .same) (not-true _ (c .if1 .taken)), record { within = c .before .before .take-bytes .ensures .within; on = c .before .before .take-bytes .ensures .on })
+returns c = (serves-bytes _ _ _ _ _ _ _ _ _ (c .before .before .take-bytes .ensures .same) (not-true _ (c .if1 .taken)), c .before .before .take-bytes .ensures .on)
 
 answer-held-requires : tie.Need-answer-held-requires
 answer-held-requires c κs = search needs
@@ -25,7 +25,7 @@ same-length-3 : tie.Need-same-length-3
 same-length-3 c = search needs
 
 returns-2 : tie.Need-returns-2
-returns-2 c = (serves-line _ _ _ _ _ _ _ _ _ _ _ _ _ _ _ _ (c .before .before .before .before .before .before .before .before .before .before .before .before .before .before .before .before .before .take-bytes .ensures .same) (not-false _ (c .before .before .before .before .before .before .before .before .before .before .before .before .before .before .before .if1 .left)) (c .before .before .before .before .before .before .before .answer-held .ensures), record { within = c .before .before .before .before .before .before .before .before .before .before .before .before .before .before .before .before .before .take-bytes .ensures .within; on = c .before .before .before .before .before .before .before .before .before .before .before .before .before .before .before .before .before .take-bytes .ensures .on })
+returns-2 c = (serves-line _ _ _ _ _ _ _ _ _ _ _ _ _ _ _ _ (c .before .before .before .before .before .before .before .before .before .before .before .before .before .before .before .before .before .take-bytes .ensures .same) (not-false _ (c .before .before .before .before .before .before .before .before .before .before .before .before .before .before .before .if1 .left)) (c .before .before .before .before .before .before .before .answer-held .ensures), c .before .before .before .before .before .before .before .before .before .before .before .before .before .before .before .before .before .take-bytes .ensures .on)
 
 pub serve-spec : {M : Type 1} → statement M
 serve-spec =
