@@ -68,9 +68,9 @@ fn gather(text: &mut [u8], end: usize, reply: &[u8], bytes: usize) -> Gathered
 fn feed(
     going: Going,
     input: &[u8],
-    a: &mut [u32],
-    b: &mut [u32],
-    probe: &mut [u32],
+    a: &mut [u32; ROWS],
+    b: &mut [u32; ROWS],
+    probe: &mut [u32; PROBES],
     out: &mut [u32; OUTPUT],
     reply: &mut [u8; REPLY],
     text: &mut [u8; TEXT],
@@ -108,9 +108,9 @@ fn feed(
 // Answers a last line without LF.
 fn end(
     going: Going,
-    a: &mut [u32],
-    b: &mut [u32],
-    probe: &mut [u32],
+    a: &mut [u32; ROWS],
+    b: &mut [u32; ROWS],
+    probe: &mut [u32; PROBES],
     out: &mut [u32; OUTPUT],
     reply: &mut [u8; REPLY],
 ) -> Going {
@@ -130,9 +130,9 @@ fn end(
 fn turn(
     going: Going,
     input: &mut [u8],
-    a: &mut [u32],
-    b: &mut [u32],
-    probe: &mut [u32],
+    a: &mut [u32; ROWS],
+    b: &mut [u32; ROWS],
+    probe: &mut [u32; PROBES],
     out: &mut [u32; OUTPUT],
     reply: &mut [u8; REPLY],
     text: &mut [u8; TEXT],
@@ -152,9 +152,9 @@ fn turn(
 
 // A proved loop has to end, and nothing says that the input does: it counts down from a number that no run uses up.
 fn run(
-    a: &mut [u32],
-    b: &mut [u32],
-    probe: &mut [u32],
+    a: &mut [u32; ROWS],
+    b: &mut [u32; ROWS],
+    probe: &mut [u32; PROBES],
     out: &mut [u32; OUTPUT],
     input: &mut [u8],
     reply: &mut [u8; REPLY],

