@@ -100,7 +100,7 @@ gather-past l have (x ∷ bytes) at = go (isLF x) (gather-past (keptLine l have 
     go true h = omega arith
     go false h = omega arith
 
-gather-finds : (l : List ℕ) (have : ℕ) (begun bytes : List ℕ) (at : ℕ) → Holds l have begun
+pub gather-finds : (l : List ℕ) (have : ℕ) (begun bytes : List ℕ) (at : ℕ) → Holds l have begun
     → Found begun bytes (drop (gather l have bytes at .how .next - at) bytes) (gather l have bytes at .how) (gather l have bytes at .line)
 unfolding gather cut
 gather-finds l have begun [] at h = record { line = begun; holds = h; cuts = refl }

@@ -3,5 +3,6 @@ mod FieldTurns
 mod GatherTurns
 pub mod Laws
 mod PrintTurns
+pub mod Talking
 mod Tested
 mod WordTurns
