@@ -33,8 +33,8 @@ struct Going {
     on: bool,
 }
 
-// The bytes gathered, and whether all before them could be written.
-struct Gathered {
+// The bytes of the replies gathered, and whether those before them could be written.
+struct Filled {
     end: usize,
     on: bool,
 }
@@ -47,18 +47,18 @@ fn write(text: &[u8], end: usize) -> bool
 }
 
 // A reply put after those gathered; where it does not fit, they are written first.
-fn gather(text: &mut [u8], end: usize, reply: &[u8], bytes: usize) -> Gathered
+fn add_reply(text: &mut [u8], end: usize, reply: &[u8], bytes: usize) -> Filled
     requires { ⌜ (end ≤ length (now text)) × (bytes ≤ length (now text)) × (bytes ≤ length (now reply)) ⌝ }
     ensures { λ r. ⌜ r .end ≤ length (now (text .entry)) ⌝ }
 {
     if bytes <= text.len() - end {
-        return Gathered {
+        return Filled {
             end: put_text(text, end, &reply[..bytes]),
             on: true,
         };
     }
     let on = write(text, end);
-    Gathered {
+    Filled {
         end: put_text(text, 0, &reply[..bytes]),
         on,
     }
@@ -85,9 +85,9 @@ fn feed(
         state = served.state;
         have = served.have;
         at = served.next;
-        let gathered = gather(text, end, reply, served.bytes);
-        end = gathered.end;
-        if !gathered.on {
+        let filled = add_reply(text, end, reply, served.bytes);
+        end = filled.end;
+        if !filled.on {
             return Going {
                 state,
                 line,
@@ -106,27 +106,21 @@ fn feed(
 }
 
 // Answers a last line without LF.
-fn end(
+fn answer_rest(
     going: Going,
     a: &mut [u32; ROWS],
     b: &mut [u32; ROWS],
     probe: &mut [u32; PROBES],
     out: &mut [u32; OUTPUT],
     reply: &mut [u8; REPLY],
-) -> Going {
+) {
     let line = going.line;
     let state = going.state;
     let answered = finish(state, &line, going.have, a, b, probe, out, reply);
     write(reply, answered.bytes);
-    Going {
-        state,
-        line,
-        have: 0,
-        on: false,
-    }
 }
 
-// Reads once and answers what came. A read that fails ends the program, and so does a write.
+// Reads once and answers what came. The end of the input ends the program, and so does a read or a write that fails.
 fn turn(
     going: Going,
     input: &mut [u8],
@@ -138,16 +132,16 @@ fn turn(
     text: &mut [u8; TEXT],
 ) -> Going {
     let got = libc::read(STDIN_FILENO, input);
-    let n = io::count(got, input);
+    if 0 < got {
+        let n = io::count(got, input);
+        return feed(going, &input[..n], a, b, probe, out, reply, text);
+    }
     if got == 0 {
-        return end(going, a, b, probe, out, reply);
+        answer_rest(going, a, b, probe, out, reply);
     }
-    if got < 0 {
-        let mut stopped = going;
-        stopped.on = false;
-        return stopped;
-    }
-    feed(going, &input[..n], a, b, probe, out, reply, text)
+    let mut stopped = going;
+    stopped.on = false;
+    stopped
 }
 
 // A proved loop has to end, and nothing says that the input does: it counts down from a number that no run uses up.

@@ -6,20 +6,8 @@ use Rattle.lines.proofs.AnswerTurns.{says-turn}
 use Rattle.lines.proofs.answering.answer_line.Statement.{statement}
 use Rattle.lines.proofs.answering.answer_line.Tie as tie
 
-respond-requires : tie.Need-respond-requires
-respond-requires c κs = search needs
-
 put-reply-requires : tie.Need-put-reply-requires
 put-reply-requires c κs = (omega (arith, c .before .before .before .before .before .before .before .before .before .respond .ensures .1), omega (arith, c .before .before .before .before .before .before .before .before .before .respond .ensures .1))
-
-same-length : tie.Need-same-length
-same-length c = search needs
-
-same-length-2 : tie.Need-same-length-2
-same-length-2 c = search needs
-
-same-length-3 : tie.Need-same-length-3
-same-length-3 c = search needs
 
 returns : tie.Need-returns
 returns c = says-turn _ _ _ _ _ _ _ _ _ _ _ _ _ _ (c .before .before .before .before .before .before .before .before .before .before .before .respond .ensures .0) (c .before .put-reply .ensures .0) (omega (arith, c .before .put-reply .ensures .1, c .before .before .before .before .before .before .before .before .before .before .before .respond .ensures .1))
@@ -27,4 +15,4 @@ returns c = says-turn _ _ _ _ _ _ _ _ _ _ _ _ _ _ (c .before .before .before .be
 pub answer-line-spec : {M : Type 1} → statement M
 answer-line-spec =
     tie.close
-    (tie.spec respond-requires put-reply-requires same-length same-length-2 same-length-3 returns)
+    (tie.spec (λ c κs. search needs) put-reply-requires (λ c. search needs) (λ c. search needs) (λ c. search needs) returns)

@@ -11,24 +11,6 @@ returns : tie.Need-returns
 unfolding asks
 returns c = rw (not-true (c .before .before .before .before .before .args .state .started) (c .if1 .taken))
 
-perform-requires : tie.Need-perform-requires
-perform-requires c κs = search needs
-
-go-on-requires : tie.Need-go-on-requires
-go-on-requires c κs = search needs
-
-same-length : tie.Need-same-length
-same-length c = search needs
-
-same-length-2 : tie.Need-same-length-2
-same-length-2 c = search needs
-
-same-length-3 : tie.Need-same-length-3
-same-length-3 c = search needs
-
-same-length-4 : tie.Need-same-length-4
-same-length-4 c = search needs
-
 returns-2 : tie.Need-returns-2
 unfolding asks
 returns-2 c = rw (not-false (c .before .before .before .before .before .before .before .before .before .before .before .before .before .before .before .before .before .before .before .before .args .state .started) (c .before .before .before .before .before .before .before .before .before .before .before .before .before .before .before .if1 .left), c .go-on .ensures) (ap went (c .before .before .before .before .before .before .before .before .before .perform .ensures))
@@ -38,10 +20,10 @@ ask-spec =
     tie.close
     (tie.spec
     returns
-    perform-requires
-    go-on-requires
-    same-length
-    same-length-2
-    same-length-3
-    same-length-4
+    (λ c κs. search needs)
+    (λ c κs. search needs)
+    (λ c. search needs)
+    (λ c. search needs)
+    (λ c. search needs)
+    (λ c. search needs)
     returns-2)

@@ -16,23 +16,8 @@ returns : tie.Need-returns
 unfolding asks
 returns c = rw (not-true (c .before .before .before .before .before .args .state .started) (c .if1 .taken))
 
-pairs-need-requires : tie.Need-pairs-need-requires
-pairs-need-requires c κs = search needs
-
-slice-relend-prefix-drain : tie.Need-slice-relend-prefix-drain
-slice-relend-prefix-drain c = search needs
-
 slice-aggregate-drain : tie.Need-slice-aggregate-drain
 slice-aggregate-drain c = sym (length-take-le _ _ (omega (arith, c .before .pairs-need .ensures)))
-
-drain-requires : tie.Need-drain-requires
-drain-requires c κs = search needs
-
-go-on-requires : tie.Need-go-on-requires
-go-on-requires c κs = search needs
-
-same-length : tie.Need-same-length
-same-length c = search needs
 
 returns-2 : tie.Need-returns-2
 unfolding asks drainsIn
@@ -43,10 +28,10 @@ ask-drain-spec =
     tie.close
     (tie.spec
     returns
-    pairs-need-requires
-    slice-relend-prefix-drain
+    (λ c κs. search needs)
+    (λ c. search needs)
     slice-aggregate-drain
-    drain-requires
-    go-on-requires
-    same-length
+    (λ c κs. search needs)
+    (λ c κs. search needs)
+    (λ c. search needs)
     returns-2)

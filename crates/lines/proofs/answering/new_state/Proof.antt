@@ -4,11 +4,8 @@ use borrow.Author.Needs.{needs}
 use Rattle.lines.proofs.answering.new_state.Statement.{statement}
 use Rattle.lines.proofs.answering.new_state.Tie as tie
 
-new-session-requires : tie.Need-new-session-requires
-new-session-requires c κs = search needs
-
 returns : tie.Need-returns
 returns c = rw (c .new-session .ensures)
 
 pub new-state-spec : {M : Type 1} → statement M
-new-state-spec = tie.close (tie.spec new-session-requires returns)
+new-state-spec = tie.close (tie.spec (λ c κs. search needs) returns)

@@ -6,23 +6,8 @@ use Rattle.lines.proofs.AnswerTurns.{serves-bytes, serves-line}
 use Rattle.lines.proofs.serving.serve.Statement.{statement}
 use Rattle.lines.proofs.serving.serve.Tie as tie
 
-take-bytes-requires : tie.Need-take-bytes-requires
-take-bytes-requires c κs = search needs
-
 returns : tie.Need-returns
 returns c = (serves-bytes _ _ _ _ _ _ _ _ _ (c .before .before .take-bytes .ensures .same) (not-true _ (c .if1 .taken)), c .before .before .take-bytes .ensures .on)
-
-answer-held-requires : tie.Need-answer-held-requires
-answer-held-requires c κs = search needs
-
-same-length : tie.Need-same-length
-same-length c = search needs
-
-same-length-2 : tie.Need-same-length-2
-same-length-2 c = search needs
-
-same-length-3 : tie.Need-same-length-3
-same-length-3 c = search needs
 
 returns-2 : tie.Need-returns-2
 returns-2 c = (serves-line _ _ _ _ _ _ _ _ _ _ _ _ _ _ _ _ (c .before .before .before .before .before .before .before .before .before .before .before .before .before .before .before .before .before .take-bytes .ensures .same) (not-false _ (c .before .before .before .before .before .before .before .before .before .before .before .before .before .before .before .if1 .left)) (c .before .before .before .before .before .before .before .answer-held .ensures), c .before .before .before .before .before .before .before .before .before .before .before .before .before .before .before .before .before .take-bytes .ensures .on)
@@ -31,10 +16,10 @@ pub serve-spec : {M : Type 1} → statement M
 serve-spec =
     tie.close
     (tie.spec
-    take-bytes-requires
+    (λ c κs. search needs)
     returns
-    answer-held-requires
-    same-length
-    same-length-2
-    same-length-3
+    (λ c κs. search needs)
+    (λ c. search needs)
+    (λ c. search needs)
+    (λ c. search needs)
     returns-2)
