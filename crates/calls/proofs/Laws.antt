@@ -16,16 +16,16 @@ use Rattle.stamps.specs.Keys.{itemOf}
 use Rattle.sheets.specs.Layout.{roomOf}
 use Rattle.sheets.specs.Rows.{hot, latest}
 use Rattle.sheets.specs.Pairs.{told, putFrom}
-use Rattle.calls.specs.Calls.{After, after, joins, arrives, evicts, runs, owed, drains, effect, settle, afterCall}
+use Rattle.calls.specs.Calls.{After, after, joins, arrives, evicts, runs, owed, drains, effect, settle, afterCall, fresh, opens}
 use Rattle.calls.specs.Answers.{pairsOf}
-use Rattle.calls.specs.Refusals.{Check, check, verdict, roomFor, makeRoom, idle, ran, portionChecks, rowChecks, roomCheck, checks}
+use Rattle.calls.specs.Refusals.{Check, check, verdict, sizesFit, roomFor, makeRoom, idle, ran, portionChecks, rowChecks, roomCheck, checks}
 use Rattle.calls.specs.Work.{leaves, world}
 use Rattle.calls.specs.World.{World, countOf, rowsOf, sideOf, seenFrom, flush, store, note, shut, move}
 use Rattle.calls.specs.declared.types.Call.{Call}
 use Rattle.calls.specs.declared.types.Call.the-variants.{Arrive, Evict, Run, Close, Drain}
 use Rattle.calls.specs.declared.types.Why.{Why}
-use Rattle.calls.specs.declared.types.Why.the-variants.{ListFull}
-use Rattle.calls.specs.declared.types.Answer.the-variants.{Ran, More, Done, Refused}
+use Rattle.calls.specs.declared.types.Why.the-variants.{BadSheet, ListFull}
+use Rattle.calls.specs.declared.types.Answer.the-variants.{Opened, Ran, More, Done, Refused}
 use Rattle.calls.specs.declared.types.Reply.{Reply}
 use Rattle.calls.specs.declared.refusals.Verdict.{Verdict}
 use Rattle.calls.specs.declared.refusals.Verdict.the-variants.{Good, No}
@@ -141,3 +141,11 @@ pairs-fit w o c = go (verdict (checks w c (roomOf (length o)))) refl
     go : (v : Verdict) → verdict (checks w c (roomOf (length o))) ≡ v → pairsOf (settle v w o (effect w o c) .answer) ≤ roomOf (length o)
     go Good e = effect-fits w o c e
     go (No y) e = omega arith
+
+pub opens-none : (p m n a b probe : ℕ) → pairsOf (opens p m n a b probe .answer) ≡ 0
+unfolding opens
+opens-none p m n a b probe = go (sizesFit p m n a b probe)
+  where
+    go : (u : Bool) → pairsOf ((cond {A = Reply} u (record { answer = Opened; session = fresh p m n }) (record { answer = Refused BadSheet; session = fresh 0 0 0 })) .answer) ≡ 0
+    go true = refl
+    go false = refl

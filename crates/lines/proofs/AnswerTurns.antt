@@ -8,23 +8,23 @@ use native.Mathlib.Omega.{arith}
 use lib.ListN.{length, take, length-take}
 use Rattle.sheets.specs.Layout.{pairsNeed, roomOf}
 use Rattle.calls.specs.Answers.{pairsOf}
-use Rattle.calls.specs.Calls.{After, fresh, opens}
-use Rattle.calls.specs.Refusals.{sizesFit}
+use Rattle.calls.specs.Calls.{After, opens}
 use Rattle.calls.specs.World.{World}
-use Rattle.calls.specs.declared.types.Answer.the-variants.{Opened, Refused}
 use Rattle.calls.specs.declared.types.Call.the-variants.{Drain}
-use Rattle.calls.specs.declared.types.Why.the-variants.{BadSheet, NoStart}
-use Rattle.calls.proofs.Laws.{pairs-fit}
+use Rattle.calls.specs.declared.types.Reply.{Reply}
+use Rattle.calls.specs.declared.types.Why.the-variants.{NoStart}
+use Rattle.calls.proofs.Laws.{pairs-fit, opens-none}
 use Rattle.lines.specs.declared.answering.Outcome.{Outcome}
 use Rattle.lines.specs.declared.answering.State.{State}
-use Rattle.lines.specs.declared.reading.Line.the-variants as line
 use Rattle.lines.specs.declared.gathering.Gathered.{Gathered}
-use Rattle.lines.specs.Answering.{Turn, turned, refuses, begins, went, asks, drainsIn, turnOf, replied, answered, silent, roomMost, Says}
+use Rattle.lines.specs.Answering.{Turn, turned, refuses, isOpened, goesOn, begins, went, asks, drainsIn, turnOf, replied, answered, silent, Says}
 use Rattle.lines.specs.Gathering.{Held}
 use Rattle.lines.specs.Printing.{Put, replyMost, replyText}
-use Rattle.lines.specs.Reading.{readLine}
+use Rattle.lines.specs.Reading.{roomMost, readLine}
 use Rattle.lines.specs.Serving.{Serves}
 use Rattle.lines.proofs.PrintTurns.{put-none}
+
+-- ---- the pairs of an answer
 
 asks-fits : (t : State) (a b probe o : List ℕ) (x : After) (room : ℕ) → pairsOf (x .answer) ≤ room → pairsOf (asks t a b probe o x .told .answer) ≤ room
 unfolding asks
@@ -38,17 +38,16 @@ pub drains-fits : (room : ℕ) (w : World) (o : List ℕ) → pairsOf (drainsIn 
 unfolding drainsIn
 drains-fits room w o = omega (arith, pairs-fit w (take (pairsNeed room) o) Drain, length-take (pairsNeed room) o)
 
-begins-fits : (t : State) (p m n a b probe : ℕ) → pairsOf (begins t (opens p m n a b probe) .answer) ≡ 0
-unfolding opens
-begins-fits t p m n a b probe = go (sizesFit p m n a b probe)
+begins-answer : (t : State) (r : Reply) → begins t r .answer ≡ r .answer
+begins-answer t r = go (isOpened (r .answer))
   where
-    go : (u : Bool) → pairsOf (begins t (cond u (record { answer = Opened; session = fresh p m n }) (record { answer = Refused BadSheet; session = fresh 0 0 0 })) .answer) ≡ 0
+    go : (u : Bool) → (cond u (goesOn r) (record { answer = r .answer; state = t })) .answer ≡ r .answer
     go true = refl
     go false = refl
 
 -- the same of what the functions hand back
 pub begun-fits : (t : State) (p m n a b probe : ℕ) (r : Outcome) → r ≡ begins t (opens p m n a b probe) → pairsOf (r .answer) ≤ roomMost
-begun-fits t p m n a b probe r e = omega (arith, ap (λ (x : Outcome). pairsOf (x .answer)) e, begins-fits t p m n a b probe)
+begun-fits t p m n a b probe r e = omega (arith, ap (λ (x : Outcome). pairsOf (x .answer)) e, ap pairsOf (begins-answer t (opens p m n a b probe)), opens-none p m n a b probe)
 
 pub asked-fits : (t : State) (a b probe o : List ℕ) (x : After) (r : Outcome) (a′ b′ probe′ o′ : List ℕ) → turned r a′ b′ probe′ o′ ≡ asks t a b probe o x
     → pairsOf (x .answer) ≤ roomOf (length o) → length o ≡ pairsNeed roomMost → pairsOf (r .answer) ≤ roomMost

@@ -3,7 +3,6 @@ use mathlib.Core.Path.{_≡_}
 use mathlib.Core.Bool.{Bool, true, false, cond}
 use mathlib.Core.List.{List, [], _++_}
 use Prim.Native.Nat.{ℕ, _≤_}
-use lib.Dec.{eqb}
 use lib.ListN.{length, take, drop}
 use Rattle.sheets.specs.Layout.{pairsNeed}
 use Rattle.calls.specs.Calls.{After, after, fresh, opens, afterCall}
@@ -21,7 +20,7 @@ use Rattle.lines.specs.declared.answering.State.{State}
 use Rattle.lines.specs.declared.reading.Line.{Line}
 use Rattle.lines.specs.declared.reading.Line.the-variants as line
 use Rattle.lines.specs.Printing.{Put, replyMost, replyText}
-use Rattle.lines.specs.Reading.{readLine}
+use Rattle.lines.specs.Reading.{roomMost, readLine}
 
 -- ---- the state
 
@@ -115,10 +114,6 @@ answered l t a b probe o = replied (turnOf (readLine l) t a b probe o)
 -- no line, no answer
 abbrev pub silent : State → List ℕ → List ℕ → List ℕ → List ℕ → Left
 silent t a b probe o = left t a b probe o []
-
--- "Output room is 512 pairs"
-abbrev pub roomMost : ℕ
-roomMost = 512
 
 -- what a function leaves: n bytes of reply at the start of its buffer d, the other bytes as they were
 pub record Says (x : Left) (d : List ℕ) (t : State) (n : ℕ) (a b probe o e : List ℕ) : Type 0 where

@@ -1,6 +1,7 @@
 // One line answered: what it asks for is done on the lent sheets, and its reply is put into a lent buffer.
 use crate::printing::put_reply;
 use crate::reading::Line;
+use crate::reading::ROOM;
 use crate::reading::read_line;
 use calls::draining::drain;
 use calls::opening::new_session;
@@ -20,14 +21,14 @@ ghost use Rattle.sheets.specs.Layout.{pairsNeed};
 ghost use Rattle.calls.specs.Answers.{pairsOf};
 ghost use Rattle.calls.specs.Calls.{afterCall};
 ghost use Rattle.calls.specs.Work.{world};
-ghost use Rattle.lines.specs.Reading.{readLine};
-ghost use Rattle.lines.specs.Answering.{unstarted, isOpened, goesOn, begins, turned, asks, drainsIn, turnOf, answered, roomMost, Says};
+ghost use Rattle.lines.specs.Reading.{roomMost, readLine};
+ghost use Rattle.lines.specs.Answering.{unstarted, isOpened, goesOn, begins, turned, asks, drainsIn, turnOf, answered, Says};
 
-// The words of an output with room for 512 pairs.
-pub const OUTPUT: usize = 512 * PAIR;
+// The words of the output.
+pub const OUTPUT: usize = ROOM as usize * PAIR;
 
-// The bytes of the longest reply: 38 for each of 512 pairs, and 25 for the answer.
-pub const REPLY: usize = 38 * 512 + 25;
+// The bytes of the longest reply: 38 for each pair, and 25 for the answer.
+pub const REPLY: usize = 38 * ROOM as usize + 25;
 
 // Whether a START was accepted, and the session that it began.
 pub struct State {
@@ -98,6 +99,7 @@ fn begin(state: State, reply: Reply) -> Outcome
     go_on(reply)
 }
 
+// A call in a session; without one it is refused.
 fn ask(
     state: State,
     call: Call,
@@ -119,7 +121,7 @@ fn ask(
     go_on(perform(session, call, a, b, probe, out))
 }
 
-// A drain into the first words of the output, those of the room that it names.
+// The same of a drain, which is lent the first words of the output, those of the room that it names.
 fn ask_drain(
     state: State,
     room: u32,
@@ -143,6 +145,7 @@ fn ask_drain(
     go_on(drain(session, a, b, probe, &mut out[..words]))
 }
 
+// What a line is told. It answers with no more pairs than the output has room for.
 fn respond(
     state: State,
     line: &[u8],
@@ -164,6 +167,7 @@ fn respond(
     }
 }
 
+// Does what a line asks for, and puts its reply at the start of the buffer.
 pub fn answer_line(
     state: State,
     line: &[u8],
