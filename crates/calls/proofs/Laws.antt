@@ -2,11 +2,12 @@
 -- By cases on the verdict and on the call. Assumes nothing.
 use mathlib.Core.Path.{_≡_, refl, sym, ap, _∙_}
 use mathlib.Core.Bool.{Bool, true, false, cond, false≢true}
-use mathlib.Core.List.{List}
+use mathlib.Core.List.{List, [], _∷_, _++_}
 use Prim.Native.Nat.{ℕ, suc, _+_, _≤_}
 use native.Mathlib.Omega.{arith}
-use lib.Dec.{ltb}
-use lib.ListN.{length, take}
+use lib.Dec.{ltb, leb}
+use lib.ListN.{length, take, length-take}
+use borrow.Author.Tests.{ltb-false}
 use Rattle.stamps.specs.declared.Source.{Source}
 use Rattle.stamps.specs.declared.Source.the-variants.{A, B}
 use Rattle.stamps.specs.declared.Item.{Item}
@@ -14,20 +15,22 @@ use Rattle.stamps.specs.Counting.Laws.{tally-le}
 use Rattle.stamps.specs.Keys.{itemOf}
 use Rattle.sheets.specs.Layout.{roomOf}
 use Rattle.sheets.specs.Rows.{hot}
-use Rattle.calls.specs.Answers.{refused}
-use Rattle.calls.specs.Calls.{After, after, joins, arrives, evicts, tries, runs, owed, drains, effect, settle, afterCall}
-use Rattle.calls.specs.Refusals.{verdict, roomFor, makeRoom, idle, checks}
+use Rattle.calls.specs.Answers.{refused, pairsOf}
+use Rattle.calls.specs.Calls.{After, after, joins, arrives, evicts, tries, runs, owed, drains, effect, settle, afterCall, fresh, opens}
+use Rattle.calls.specs.Refusals.{verdict, roomFor, makeRoom, idle, checks, Check, check, sizesFit, portionChecks, rowChecks, roomCheck}
 use Rattle.calls.specs.Work.{leaves, world}
-use Rattle.calls.specs.World.{World, countOf, rowsOf, flush, store, note, shut, move}
+use Rattle.calls.specs.World.{World, countOf, rowsOf, flush, store, note, shut, move, sideOf}
 use Rattle.calls.specs.declared.types.Call.{Call}
 use Rattle.calls.specs.declared.types.Call.the-variants.{Arrive, Evict, Run, Close, Drain}
 use Rattle.calls.specs.declared.types.Why.{Why}
-use Rattle.calls.specs.declared.types.Answer.the-variants.{Ran, More, Done, Refused}
+use Rattle.calls.specs.declared.types.Why.the-variants.{BadSheet, ListFull}
+use Rattle.calls.specs.declared.types.Answer.the-variants.{Opened, Ran, More, Done, Refused}
 use Rattle.calls.specs.declared.types.Reply.{Reply}
 use Rattle.calls.specs.declared.refusals.Verdict.{Verdict}
 use Rattle.calls.specs.declared.refusals.Verdict.the-variants.{Good, No}
 use Rattle.calls.specs.declared.arriving.Room.{Room}
 use Rattle.calls.specs.declared.arriving.Room.the-variants.{Enough, Flush}
+use Rattle.calls.proofs.Settling.{verdict-first, verdict-last}
 
 -- ---- any two results that a promise allows for one input are equal
 
@@ -112,3 +115,45 @@ clock-bound w o c h = go (verdict (checks w c (roomOf (length o))))
     go : (v : Verdict) → settle v w o (effect w o c) .world .session .clock ≤ w .session .clock + 4097
     go Good = effect-clock w o c h
     go (No y) = omega arith
+
+-- ---- a call writes no more pairs than its output has room for
+
+-- a check of the room that let the call through, after others
+room-suffices : (cs : List Check) (room n : ℕ) → verdict (cs ++ (roomCheck room n ∷ [])) ≡ Good → n ≤ room
+room-suffices cs room n h = ltb-false room n (verdict-first _ [] (verdict-last cs _ h))
+
+effect-fits : (w : World) (o : List ℕ) (c : Call) → verdict (checks w c (roomOf (length o))) ≡ Good → pairsOf (effect w o c .answer) ≤ roomOf (length o)
+unfolding effect arrives joins evicts runs drains checks
+effect-fits w o (Arrive s m) h = room-suffices (rowChecks (w .session) s m (length (w .a)) (length (w .b)) (length (w .probe))) _ _ h
+effect-fits w o (Evict s q) h = omega arith
+effect-fits w o (Run s q) h = go (idle w s q) (verdict-last (portionChecks (w .session) q (length (w .a)) (length (w .b)) (length (w .probe))) _ h)
+  where
+    crowded : List Check
+    crowded = check (leb 32 (length (sideOf w s .list q))) ListFull ∷ []
+
+    go : (u : Bool) → verdict (cond u [] (tryChecks w s q (roomOf (length o)))) ≡ Good
+        → pairsOf ((cond u (after (Ran 0) w o) (tries s q w o)) .answer) ≤ roomOf (length o)
+    go true e = omega arith
+    go false e = room-suffices crowded _ _ e
+effect-fits w o (Close s) h = omega arith
+effect-fits w o Drain h = go (ltb (roomOf (length o)) (length (owed w)))
+  where
+    go : (u : Bool) → pairsOf (cond u More Done (length (take (roomOf (length o)) (owed w)))) ≤ roomOf (length o)
+    go true = omega (arith, length-take (roomOf (length o)) (owed w))
+    go false = omega (arith, length-take (roomOf (length o)) (owed w))
+
+pub pairs-fit : (w : World) (o : List ℕ) (c : Call) → pairsOf (afterCall w o c .answer) ≤ roomOf (length o)
+unfolding afterCall
+pairs-fit w o c = go (verdict (checks w c (roomOf (length o)))) refl
+  where
+    go : (v : Verdict) → verdict (checks w c (roomOf (length o))) ≡ v → pairsOf (settle v w o (effect w o c) .answer) ≤ roomOf (length o)
+    go Good e = effect-fits w o c e
+    go (No y) e = omega arith
+
+pub opens-none : (p m n a b probe : ℕ) → pairsOf (opens p m n a b probe .answer) ≡ 0
+unfolding opens
+opens-none p m n a b probe = go (sizesFit p m n a b probe)
+  where
+    go : (u : Bool) → pairsOf ((cond {A = Reply} u (record { answer = Opened; session = fresh p m n }) (record { answer = Refused BadSheet; session = fresh 0 0 0 })) .answer) ≡ 0
+    go true = refl
+    go false = refl

@@ -49,6 +49,11 @@ verdict-rest c cs h = go (c .fails) h
     go true e = let z : _≡_ {A = ℕ} 0 1 = cc in absurd (omega arith)
     go false e = e
 
+-- of checks that let the call through, so do the last ones
+pub verdict-last : (cs ds : List Check) → verdict (cs ++ ds) ≡ Good → verdict ds ≡ Good
+verdict-last [] ds h = h
+verdict-last (c ∷ cs) ds h = verdict-last cs ds (verdict-rest c (cs ++ ds) h)
+
 -- the later checks matter where the first ones find nothing
 pub verdict-good : (cs ds : List Check) → verdict cs ≡ Good → verdict (cs ++ ds) ≡ verdict ds
 unfolding verdict

@@ -9,7 +9,8 @@ ghost use mathlib.Core.Path.{_≡_};
 ghost use lib.ListN.{length};
 ghost use Rattle.calls.specs.Calls.{fresh, opens};
 
-fn new_session(parts: u32, slots: u32, limit: u32) -> Session
+// A record with nothing in it yet.
+pub fn new_session(parts: u32, slots: u32, limit: u32) -> Session
     ensures { λ r. ⌜ r ≡ fresh parts slots limit ⌝ }
 {
     let none = Feed {

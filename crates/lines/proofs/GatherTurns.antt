@@ -7,34 +7,28 @@ use Prim.Native.Nat.{ℕ, _+_, _≤_, _<_}
 use native.Mathlib.Omega.{arith}
 use lib.ListN.{length, getD, drop, drop-of-length-le}
 use borrow.Author.Tests.{eq-eqb, ne-eqb}
-use Rattle.lines.specs.Gathering.{lineMost, keptLen, keptLine, gather, Took}
+use Rattle.lines.specs.Gathering.{keptLen, keptLine, gather, Took}
 use Rattle.lines.proofs.FieldTurns.{left-at}
 
 pub record Taking (l : List ℕ) (have : ℕ) (input : List ℕ) (from : ℕ) (line : List ℕ) (held i : ℕ) : Type 0 where
   pub same : gather line held (drop i input) i ≡ gather l have (drop from input) from
-  pub most : held ≤ lineMost
   pub past : from ≤ i
-  pub within : i ≤ length input
 
-pub taking-first : (l : List ℕ) (have : ℕ) (input : List ℕ) (from : ℕ) → have ≤ lineMost → from ≤ length input → Taking l have input from l have from
-taking-first l have input from h b = record { same = refl; most = h; past = omega arith; within = b }
+pub taking-first : (l : List ℕ) (have : ℕ) (input : List ℕ) (from : ℕ) → Taking l have input from l have from
+taking-first l have input from = record { same = refl; past = omega arith }
 
 module _ (l : List ℕ) (have : ℕ) (input : List ℕ) (from : ℕ) (line : List ℕ) (held i : ℕ) (t : Taking l have input from line held i) where
-  pub taking-byte : i < length input → (getD input i 0 ≡ 10 → ⊥) → keptLen held ≤ lineMost → Taking l have input from (keptLine line held (getD input i 0)) (keptLen held) (i + 1)
+  pub taking-byte : i < length input → (getD input i 0 ≡ 10 → ⊥) → Taking l have input from (keptLine line held (getD input i 0)) (keptLen held) (i + 1)
   unfolding gather
-  taking-byte b n h = record {
+  taking-byte b n = record {
     same = sym (rw (left-at input i b, ne-eqb _ _ n)) ∙ t .same;
-    most = h;
     past = omega (arith, t .past);
-    within = omega arith;
   }
 
   pub taking-line : i < length input → getD input i 0 ≡ 10 → Took l have input from (record { have = held; next = i + 1; ended = true }) line
   unfolding gather
   taking-line b e = record {
     same = sym (rw (left-at input i b, eq-eqb _ _ e)) ∙ t .same;
-    most = t .most;
-    within = omega arith;
     on = λ g. omega (arith, t .past);
   }
 
@@ -42,7 +36,5 @@ module _ (l : List ℕ) (have : ℕ) (input : List ℕ) (from : ℕ) (line : Lis
   unfolding gather
   taking-all b = record {
     same = sym (rw (drop-of-length-le input b)) ∙ t .same;
-    most = t .most;
-    within = t .within;
     on = λ g. omega arith;
   }

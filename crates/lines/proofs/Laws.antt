@@ -12,6 +12,7 @@ use lib.ListN.{length, take, drop, set, length-append, length-set}
 use lib.Seq.{take-all, take-suc-set, take-append-le, length-take-le, drop-drop}
 use borrow.Author.Tests.{ltb-true, ltb-false, leb-true, leb-false, le-leb}
 use Rattle.stamps.specs.declared.Source.{Source}
+use Rattle.lines.specs.declared.answering.State.{State}
 use Rattle.lines.specs.declared.gathering.Gathered.{Gathered}
 use Rattle.lines.specs.declared.numbers.Number.{Number}
 use Rattle.lines.specs.declared.numbers.Number.the-variants as number
@@ -19,15 +20,18 @@ use Rattle.lines.specs.declared.reading.Line.{Line}
 use Rattle.lines.specs.declared.reading.Line.the-variants as line
 use Rattle.lines.specs.declared.reading.Portion.{Portion}
 use Rattle.lines.specs.declared.reading.Portion.the-variants as portion
+use Rattle.lines.specs.declared.serving.Served.{Served}
 use Rattle.lines.specs.declared.words.Side.{Side}
 use Rattle.lines.specs.declared.words.Side.the-variants as side
 use Rattle.lines.specs.declared.words.Word.{Word}
 use Rattle.lines.specs.declared.words.Word.the-variants as word
+use Rattle.lines.specs.Answering.{Left, Says}
 use Rattle.lines.specs.Fields.{fields, fieldAt}
 use Rattle.lines.specs.Gathering.{isLF, Cut, only, before, cut, linesFrom, lineMost, keptLen, keptLine, Held, held, gather, Took}
 use Rattle.lines.specs.Numbers.{isDigit, digitsFrom}
 use Rattle.lines.specs.Printing.{Put, digitsUp, numberMost, decimal}
 use Rattle.lines.specs.Reading.{numberAt, sideAt, start, arrive, portionOf, evict, run, close, drain, startLine, arriveLine, closeLine, drainLine, lineOf, readLine}
+use Rattle.lines.specs.Serving.{Serves}
 use Rattle.lines.specs.Words.{wordOf}
 
 -- ---- pieces of an input
@@ -96,7 +100,7 @@ gather-past l have (x ∷ bytes) at = go (isLF x) (gather-past (keptLine l have 
     go true h = omega arith
     go false h = omega arith
 
-gather-finds : (l : List ℕ) (have : ℕ) (begun bytes : List ℕ) (at : ℕ) → Holds l have begun
+pub gather-finds : (l : List ℕ) (have : ℕ) (begun bytes : List ℕ) (at : ℕ) → Holds l have begun
     → Found begun bytes (drop (gather l have bytes at .how .next - at) bytes) (gather l have bytes at .how) (gather l have bytes at .line)
 unfolding gather cut
 gather-finds l have begun [] at h = record { line = begun; holds = h; cuts = refl }
@@ -180,6 +184,17 @@ put-one-result a b = (a .next ∙ sym (b .next), a .bytes ∙ sym (b .bytes))
 
 pub took-one-result : {l input e f : List ℕ} {have from : ℕ} {r q : Gathered} → Took l have input from r e → Took l have input from q f → (r ≡ q) × (e ≡ f)
 took-one-result a b = let s = a .same ∙ sym (b .same) in (ap (λ (h : Held). h .how) s, ap (λ (h : Held). h .line) s)
+
+pub says-one-result : {x : Left} {d : List ℕ} {t t′ : State} {n n′ : ℕ} {a a′ b b′ probe probe′ o o′ e e′ : List ℕ} → Says x d t n a b probe o e → Says x d t′ n′ a′ b′ probe′ o′ e′
+    → (t ≡ t′) × (n ≡ n′) × (a ≡ a′) × (b ≡ b′) × (probe ≡ probe′) × (o ≡ o′) × (e ≡ e′)
+says-one-result r q = let s = r .same ∙ sym (q .same) in let p = put-one-result (r .text) (q .text) in
+    (ap (λ (y : Left). y .state) s, p .0, ap (λ (y : Left). y .a) s, ap (λ (y : Left). y .b) s, ap (λ (y : Left). y .probe) s, ap (λ (y : Left). y .out) s, p .1)
+
+pub serves-one-result : {g : Held} {t : State} {a b probe o d : List ℕ} {r r′ : Served} {l l′ a₁ a₂ b₁ b₂ probe₁ probe₂ o₁ o₂ e₁ e₂ : List ℕ}
+    → Serves g t a b probe o d r l a₁ b₁ probe₁ o₁ e₁ → Serves g t a b probe o d r′ l′ a₂ b₂ probe₂ o₂ e₂
+    → (r ≡ r′) × (l ≡ l′) × (a₁ ≡ a₂) × (b₁ ≡ b₂) × (probe₁ ≡ probe₂) × (o₁ ≡ o₂) × (e₁ ≡ e₂)
+serves-one-result x y = let (t, n, a, b, probe, o, e) = says-one-result (x .says) (y .says) in
+    (λ i. record { state = t i; have = (x .have ∙ sym (y .have)) i; next = (x .next ∙ sym (y .next)) i; bytes = n i }, x .line ∙ sym (y .line), a, b, probe, o, e)
 
 -- ---- a drain names a room of at most 512
 

@@ -2,7 +2,7 @@
 use mathlib.Core.Path.{_≡_}
 use mathlib.Core.Bool.{Bool, true, false, cond}
 use mathlib.Core.List.{List, [], _∷_, _++_}
-use Prim.Native.Nat.{ℕ, _+_, _≤_, _<_}
+use Prim.Native.Nat.{ℕ, _+_, _<_}
 use lib.Dec.{eqb, ltb}
 use lib.ListN.{length, drop, set}
 use Rattle.lines.specs.declared.gathering.Gathered.{Gathered}
@@ -75,6 +75,4 @@ gather l have (x ∷ bytes) at = cond (isLF x) (held have (at + 1) true l) (gath
 -- what one look at the input from `from` on answers and leaves in the buffer; it gets on wherever there are bytes
 pub record Took (l : List ℕ) (have : ℕ) (input : List ℕ) (from : ℕ) (r : Gathered) (e : List ℕ) : Type 0 where
   pub same : record { how = r; line = e } ≡ gather l have (drop from input) from
-  pub most : r .have ≤ lineMost
-  pub within : r .next ≤ length input
   pub on : from < length input → from < r .next

@@ -94,9 +94,13 @@ close side.Neither = line.Bad
 unfoldable pub closeLine : List (List ℕ) → Line
 closeLine fs = ofCount 2 fs (close (sideAt fs 1))
 
+-- "Output room is 512 pairs"
+abbrev pub roomMost : ℕ
+roomMost = 512
+
 -- "DRAIN with more than 512" is BadLine
 abbrev pub drain : Number → Line
-drain (number.Value room) = cond (leb room 512) (line.Drain room) line.Bad
+drain (number.Value room) = cond (leb room roomMost) (line.Drain room) line.Bad
 drain number.Bad = line.Bad
 
 -- "DRAIN,room"

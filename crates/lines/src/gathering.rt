@@ -1,9 +1,7 @@
 // Cutting the input into lines, a piece of it at a time. A line's buffer has one byte more than a good line:
 // what comes after is dropped, and the line reads as bad.
 ghost use mathlib.Core.Path.{_≡_};
-ghost use Prim.Native.Nat.{_≤_};
-ghost use lib.ListN.{length};
-ghost use Rattle.lines.specs.Gathering.{lineMost, keptLen, keptLine, Took};
+ghost use Rattle.lines.specs.Gathering.{keptLen, keptLine, Took};
 
 pub const BUFFER: usize = 81;
 
@@ -15,8 +13,7 @@ pub struct Gathered {
 }
 
 fn keep(line: &mut [u8; BUFFER], have: usize, byte: u8) -> usize
-    requires { ⌜ have ≤ lineMost ⌝ }
-    ensures { λ r. ⌜ (r ≡ keptLen have) × (now (line .exit) ≡ keptLine (now (line .entry)) have byte) × (r ≤ lineMost) ⌝ }
+    ensures { λ r. ⌜ (r ≡ keptLen have) × (now (line .exit) ≡ keptLine (now (line .entry)) have byte) ⌝ }
 {
     if have < BUFFER {
         line[have] = byte;
@@ -27,7 +24,6 @@ fn keep(line: &mut [u8; BUFFER], have: usize, byte: u8) -> usize
 
 // Bytes of the input go to the line, up to an LF or the input's end.
 pub fn take_bytes(line: &mut [u8; BUFFER], have: usize, input: &[u8], from: usize) -> Gathered
-    requires { ⌜ (have ≤ lineMost) × (from ≤ length (now input)) ⌝ }
     ensures { λ r. ⌜ Took (now (line .entry)) have (now (input .entry)) from r (now (line .exit)) ⌝ }
 {
     let mut held = have;

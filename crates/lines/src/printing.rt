@@ -10,7 +10,7 @@ ghost use Rattle.sheets.specs.Layout.{pairsNeed};
 ghost use Rattle.sheets.specs.Pairs.{pairsAt};
 ghost use Rattle.lines.specs.Printing.{Put, digitsUp, numberMost, decimal, worded, said, pairMost, pairText, pairsText, codeOf, needOf, noText, answerMost, answerText, pairsOf, replyMost, replyText};
 
-fn put_text(buf: &mut [u8], at: usize, text: &[u8]) -> usize
+pub fn put_text(buf: &mut [u8], at: usize, text: &[u8]) -> usize
     requires { ⌜ at + length (now text) ≤ length (now buf) ⌝ }
     ensures { λ r. ⌜ Put (now (buf .entry)) at (now (text .entry)) r (now (buf .exit)) ⌝ }
 {

@@ -16,7 +16,8 @@ ghost use Rattle.lines.specs.Reading.{numberAt, sideAt, startLine, arriv
 
 const LONGEST: usize = 80;
 
-const ROOM: u32 = 512;
+// The most pairs that a drain may name, and that the output has room for.
+pub const ROOM: u32 = 512;
 
 // An opening with P, M and N; a call; a drain with the room that it names; or a line that says nothing.
 pub enum Line {

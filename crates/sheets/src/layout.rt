@@ -10,13 +10,13 @@ ghost use Rattle.stamps.specs.Stamps.Laws.{stamp};
 ghost use Rattle.sheets.specs.Layout.{rowsNeed, probeNeed, roomOf, rowAt, putRow, listNo, listNeed, entryAt, putEntry, pairsNeed, pairAt, putPair};
 ghost use Rattle.sheets.specs.Pairs.{tell};
 
-const ROW: usize = 3;
+pub const ROW: usize = 3;
 
 const ENTRY: usize = 2;
 
-const LIST: usize = 64;
+pub const LIST: usize = 64;
 
-const PAIR: usize = 3;
+pub const PAIR: usize = 3;
 
 // The words that so many rows take.
 pub fn rows_need(rows: u32) -> usize
@@ -30,6 +30,13 @@ pub fn probe_need(parts: u32) -> usize
     ensures { λ r. ⌜ r ≡ probeNeed parts ⌝ }
 {
     2 * LIST * (parts as usize)
+}
+
+// The words that so many pairs take.
+pub fn pairs_need(pairs: u32) -> usize
+    ensures { λ r. ⌜ r ≡ pairsNeed pairs ⌝ }
+{
+    PAIR * (pairs as usize)
 }
 
 // The pairs that an output of so many words has room for.

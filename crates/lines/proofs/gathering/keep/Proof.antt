@@ -10,10 +10,10 @@ use Rattle.lines.proofs.gathering.keep.Statement.{statement}
 use Rattle.lines.proofs.gathering.keep.Tie as tie
 
 returns : tie.Need-returns
-returns c = let b : c .before .args .have < lineMost = omega arith in rw (lt-ltb _ _ b) (refl, refl, search needs)
+returns c = let b : c .before .args .have < lineMost = omega arith in rw (lt-ltb _ _ b) (refl, refl)
 
 returns-2 : tie.Need-returns-2
-returns-2 c = let b : lineMost ≤ c .before .args .have = omega arith in rw (le-ltb _ _ b) (refl, refl, search needs)
+returns-2 c = let b : lineMost ≤ c .before .args .have = omega arith in rw (le-ltb _ _ b) (refl, refl)
 
 pub keep-spec : {M : Type 1} → statement M
 keep-spec = tie.close (tie.spec (λ c. search needs) (λ c. search needs) returns returns-2)

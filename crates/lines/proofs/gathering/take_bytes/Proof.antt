@@ -14,13 +14,13 @@ abbrev μ-loop : tie.MeasureT-loop
 μ-loop line₀ have input from held₀ i₀ line held i = length input - i
 
 loop-holds : tie.Need-loop-holds Inv-loop μ-loop
-loop-holds c = taking-first _ _ _ _ (c .before .pre .0) (c .before .pre .1)
+loop-holds c = taking-first _ _ _ _
 
 returns : tie.Need-returns Inv-loop μ-loop
 returns c = taking-line _ _ _ _ _ _ _ (c .before .before .before .loop .inv) (c .before .before .loop-test .taken) (c .if1 .taken)
 
 loop-again : tie.Need-loop-again Inv-loop μ-loop
-loop-again c = rw (c .keep .ensures .0, c .keep .ensures .1) (taking-byte _ _ _ _ _ _ _ (c .before .before .before .before .before .loop .inv) (c .before .before .before .before .loop-test .taken) (c .before .before .if1 .left) (rw (c .keep .ensures .0) at (c .keep .ensures .2)))
+loop-again c = rw (c .keep .ensures .0, c .keep .ensures .1) (taking-byte _ _ _ _ _ _ _ (c .before .before .before .before .before .loop .inv) (c .before .before .before .before .loop-test .taken) (c .before .before .if1 .left))
 
 returns-2 : tie.Need-returns-2 Inv-loop μ-loop
 returns-2 c = taking-all _ _ _ _ _ _ _ (c .before .loop .inv) (c .loop-test .left)

@@ -1,0 +1,78 @@
+-- A line's answer names no more pairs than the output has room for, and what is put into the buffer is its reply.
+-- By cases on what the line asks for. Assumes nothing.
+use mathlib.Core.Path.{_≡_, refl, ap, subst}
+use mathlib.Core.Bool.{Bool, true, false, cond}
+use mathlib.Core.List.{List}
+use Prim.Native.Nat.{ℕ, _≤_}
+use native.Mathlib.Omega.{arith}
+use lib.ListN.{length, take, length-take}
+use Rattle.sheets.specs.Layout.{pairsNeed, roomOf}
+use Rattle.calls.specs.Answers.{pairsOf}
+use Rattle.calls.specs.Calls.{After, opens}
+use Rattle.calls.specs.World.{World}
+use Rattle.calls.specs.declared.types.Call.the-variants.{Drain}
+use Rattle.calls.specs.declared.types.Reply.{Reply}
+use Rattle.calls.specs.declared.types.Why.the-variants.{NoStart}
+use Rattle.calls.proofs.Laws.{pairs-fit, opens-none}
+use Rattle.lines.specs.declared.answering.Outcome.{Outcome}
+use Rattle.lines.specs.declared.answering.State.{State}
+use Rattle.lines.specs.declared.gathering.Gathered.{Gathered}
+use Rattle.lines.specs.Answering.{Turn, turned, refuses, isOpened, goesOn, begins, went, asks, drainsIn, turnOf, replied, answered, silent, Says}
+use Rattle.lines.specs.Gathering.{Held}
+use Rattle.lines.specs.Printing.{Put, replyMost, replyText}
+use Rattle.lines.specs.Reading.{roomMost, readLine}
+use Rattle.lines.specs.Serving.{Serves}
+use Rattle.lines.proofs.PrintTurns.{put-none}
+
+-- ---- the pairs of an answer
+
+asks-fits : (t : State) (a b probe o : List ℕ) (x : After) (room : ℕ) → pairsOf (x .answer) ≤ room → pairsOf (asks t a b probe o x .told .answer) ≤ room
+unfolding asks
+asks-fits t a b probe o x room h = go (t .started)
+  where
+    go : (u : Bool) → pairsOf ((cond u (went x) (turned (refuses NoStart t) a b probe o)) .told .answer) ≤ room
+    go true = h
+    go false = omega arith
+
+pub drains-fits : (room : ℕ) (w : World) (o : List ℕ) → pairsOf (drainsIn room w o .answer) ≤ roomOf (length o)
+unfolding drainsIn
+drains-fits room w o = omega (arith, pairs-fit w (take (pairsNeed room) o) Drain, length-take (pairsNeed room) o)
+
+begins-answer : (t : State) (r : Reply) → begins t r .answer ≡ r .answer
+begins-answer t r = go (isOpened (r .answer))
+  where
+    go : (u : Bool) → (cond u (goesOn r) (record { answer = r .answer; state = t })) .answer ≡ r .answer
+    go true = refl
+    go false = refl
+
+-- the same of what the functions hand back
+pub begun-fits : (t : State) (p m n a b probe : ℕ) (r : Outcome) → r ≡ begins t (opens p m n a b probe) → pairsOf (r .answer) ≤ roomMost
+begun-fits t p m n a b probe r e = omega (arith, ap (λ (x : Outcome). pairsOf (x .answer)) e, ap pairsOf (begins-answer t (opens p m n a b probe)), opens-none p m n a b probe)
+
+pub asked-fits : (t : State) (a b probe o : List ℕ) (x : After) (r : Outcome) (a′ b′ probe′ o′ : List ℕ) → turned r a′ b′ probe′ o′ ≡ asks t a b probe o x
+    → pairsOf (x .answer) ≤ roomOf (length o) → length o ≡ pairsNeed roomMost → pairsOf (r .answer) ≤ roomMost
+asked-fits t a b probe o x r a′ b′ probe′ o′ e k h = omega (arith, asks-fits t a b probe o x (roomOf (length o)) k, h, ap (λ (y : Turn). pairsOf (y .told .answer)) e)
+
+-- ---- what the functions hand back
+
+-- a turn whose reply is put into the buffer
+pub says-turn : (l : List ℕ) (t : State) (a b probe o : List ℕ) (r : Outcome) (n : ℕ) (a′ b′ probe′ o′ d e : List ℕ) → turned r a′ b′ probe′ o′ ≡ turnOf (readLine l) t a b probe o
+    → Put d 0 (replyText o′ (r .answer)) n e → n ≤ replyMost roomMost → Says (answered l t a b probe o) d (r .state) n a′ b′ probe′ o′ e
+unfolding answered
+says-turn l t a b probe o r n a′ b′ probe′ o′ d e g p h = subst (λ (x : Turn). Says (replied x) d (r .state) n a′ b′ probe′ o′ e) g (record { same = refl; text = p; most = h })
+
+-- no line
+pub says-nothing : (t : State) (a b probe o d : List ℕ) → Says (silent t a b probe o) d t 0 a b probe o d
+says-nothing t a b probe o d = record { same = refl; text = put-none d 0; most = omega arith }
+
+-- a look at the input in which the line did not end
+pub serves-bytes : (g : Held) (r : Gathered) (l : List ℕ) (t : State) (a b probe o d : List ℕ) → record { how = r; line = l } ≡ g → r .ended ≡ false
+    → Serves g t a b probe o d (record { state = t; have = r .have; next = r .next; bytes = 0 }) l a b probe o d
+serves-bytes g r l t a b probe o d s n = subst (λ (x : Held). Serves x t a b probe o d (record { state = t; have = r .have; next = r .next; bytes = 0 }) l a b probe o d) s
+    (record { says = rw n (says-nothing t a b probe o d); have = rw n; next = refl; line = refl })
+
+-- and one in which it did
+pub serves-line : (g : Held) (r : Gathered) (l : List ℕ) (t : State) (a b probe o d : List ℕ) (t′ : State) (n : ℕ) (a′ b′ probe′ o′ e : List ℕ) → record { how = r; line = l } ≡ g → r .ended ≡ true
+    → Says (answered (take (r .have) l) t a b probe o) d t′ n a′ b′ probe′ o′ e → Serves g t a b probe o d (record { state = t′; have = 0; next = r .next; bytes = n }) l a′ b′ probe′ o′ e
+serves-line g r l t a b probe o d t′ n a′ b′ probe′ o′ e s y h = subst (λ (x : Held). Serves x t a b probe o d (record { state = t′; have = 0; next = r .next; bytes = n }) l a′ b′ probe′ o′ e) s
+    (record { says = rw y h; have = rw y; next = refl; line = refl })

@@ -1,0 +1,29 @@
+-- `lines::answering::ask` meets its contract: before any START it is refused, after that it is the call.
+-- Assumes nothing.
+use borrow.Author.Needs.{needs}
+use mathlib.Core.Path.{ap}
+use borrow.Author.Tests.{not-true, not-false}
+use Rattle.lines.specs.Answering.{went, asks}
+use Rattle.lines.proofs.answering.ask.Statement.{statement}
+use Rattle.lines.proofs.answering.ask.Tie as tie
+
+returns : tie.Need-returns
+unfolding asks
+returns c = rw (not-true (c .before .before .before .before .before .args .state .started) (c .if1 .taken))
+
+returns-2 : tie.Need-returns-2
+unfolding asks
+returns-2 c = rw (not-false (c .before .before .before .before .before .before .before .before .before .before .before .before .before .before .before .before .before .before .before .before .args .state .started) (c .before .before .before .before .before .before .before .before .before .before .before .before .before .before .before .if1 .left), c .go-on .ensures) (ap went (c .before .before .before .before .before .before .before .before .before .perform .ensures))
+
+pub ask-spec : {M : Type 1} → statement M
+ask-spec =
+    tie.close
+    (tie.spec
+    returns
+    (λ c κs. search needs)
+    (λ c κs. search needs)
+    (λ c. search needs)
+    (λ c. search needs)
+    (λ c. search needs)
+    (λ c. search needs)
+    returns-2)

@@ -1,0 +1,37 @@
+-- `lines::answering::ask_drain` meets its contract: the drain is lent the words of its room, and those behind it stay.
+-- Assumes nothing.
+use borrow.Author.Needs.{needs}
+use mathlib.Core.Path.{sym, ap}
+use mathlib.Core.List.{_++_}
+use borrow.Author.Tests.{not-true, not-false}
+use native.Mathlib.Omega.{arith}
+use lib.ListN.{drop}
+use lib.Seq.{length-take-le}
+use Rattle.calls.specs.Calls.{After, after}
+use Rattle.lines.specs.Answering.{went, asks, drainsIn}
+use Rattle.lines.proofs.answering.ask_drain.Statement.{statement}
+use Rattle.lines.proofs.answering.ask_drain.Tie as tie
+
+returns : tie.Need-returns
+unfolding asks
+returns c = rw (not-true (c .before .before .before .before .before .args .state .started) (c .if1 .taken))
+
+slice-aggregate-drain : tie.Need-slice-aggregate-drain
+slice-aggregate-drain c = sym (length-take-le _ _ (omega (arith, c .before .pairs-need .ensures)))
+
+returns-2 : tie.Need-returns-2
+unfolding asks drainsIn
+returns-2 c = rw (not-false (c .before .before .before .before .before .before .before .before .before .before .before .before .args .state .started) (c .before .before .before .before .before .before .before .if1 .left), c .go-on .ensures, ← c .before .before .before .before .before .pairs-need .ensures) (ap (λ (x : After). went (after (x .answer) (x .world) (x .out ++ drop (c .before .before .before .before .before .pairs-need .result) (c .before .before .before .before .before .before .before .before .before .before .before .before .args .out .now)))) (c .before .before .before .drain .ensures))
+
+pub ask-drain-spec : {M : Type 1} → statement M
+ask-drain-spec =
+    tie.close
+    (tie.spec
+    returns
+    (λ c κs. search needs)
+    (λ c. search needs)
+    slice-aggregate-drain
+    (λ c κs. search needs)
+    (λ c κs. search needs)
+    (λ c. search needs)
+    returns-2)

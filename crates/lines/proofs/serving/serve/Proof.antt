@@ -1,0 +1,25 @@
+-- `lines::serving::serve` meets its contract: by whether the line ended.
+-- Assumes nothing.
+use borrow.Author.Needs.{needs}
+use borrow.Author.Tests.{not-true, not-false}
+use Rattle.lines.proofs.AnswerTurns.{serves-bytes, serves-line}
+use Rattle.lines.proofs.serving.serve.Statement.{statement}
+use Rattle.lines.proofs.serving.serve.Tie as tie
+
+returns : tie.Need-returns
+returns c = (serves-bytes _ _ _ _ _ _ _ _ _ (c .before .before .take-bytes .ensures .same) (not-true _ (c .if1 .taken)), c .before .before .take-bytes .ensures .on)
+
+returns-2 : tie.Need-returns-2
+returns-2 c = (serves-line _ _ _ _ _ _ _ _ _ _ _ _ _ _ _ _ (c .before .before .before .before .before .before .before .before .before .before .before .before .before .before .before .before .before .take-bytes .ensures .same) (not-false _ (c .before .before .before .before .before .before .before .before .before .before .before .before .before .before .before .if1 .left)) (c .before .before .before .before .before .before .before .answer-held .ensures), c .before .before .before .before .before .before .before .before .before .before .before .before .before .before .before .before .before .take-bytes .ensures .on)
+
+pub serve-spec : {M : Type 1} → statement M
+serve-spec =
+    tie.close
+    (tie.spec
+    (λ c κs. search needs)
+    returns
+    (λ c κs. search needs)
+    (λ c. search needs)
+    (λ c. search needs)
+    (λ c. search needs)
+    returns-2)

@@ -1,0 +1,122 @@
+-- What a line is answered and what it leaves: the state, every word of the sheets and the output, the bytes of the reply.
+use mathlib.Core.Path.{_≡_}
+use mathlib.Core.Bool.{Bool, true, false, cond}
+use mathlib.Core.List.{List, [], _++_}
+use Prim.Native.Nat.{ℕ, _≤_}
+use lib.ListN.{length, take, drop}
+use Rattle.sheets.specs.Layout.{pairsNeed}
+use Rattle.calls.specs.Calls.{After, after, fresh, opens, afterCall}
+use Rattle.calls.specs.Work.{world}
+use Rattle.calls.specs.World.{World}
+use Rattle.calls.specs.declared.types.Answer.{Answer}
+use Rattle.calls.specs.declared.types.Answer.the-variants as answer
+use Rattle.calls.specs.declared.types.Call.the-variants as call
+use Rattle.calls.specs.declared.types.Reply.{Reply}
+use Rattle.calls.specs.declared.types.Session.{Session}
+use Rattle.calls.specs.declared.types.Why.{Why}
+use Rattle.calls.specs.declared.types.Why.the-variants.{BadLine, NoStart}
+use Rattle.lines.specs.declared.answering.Outcome.{Outcome}
+use Rattle.lines.specs.declared.answering.State.{State}
+use Rattle.lines.specs.declared.reading.Line.{Line}
+use Rattle.lines.specs.declared.reading.Line.the-variants as line
+use Rattle.lines.specs.Printing.{Put, replyMost, replyText}
+use Rattle.lines.specs.Reading.{roomMost, readLine}
+
+-- ---- the state
+
+-- before any accepted START
+abbrev pub unstarted : State
+unstarted = record { started = false; session = fresh 0 0 0 }
+
+-- in a session
+abbrev pub going : Session → State
+going s = record { started = true; session = s }
+
+-- ---- an answer, and all that it leaves
+
+-- what is told, the sheets and the output
+pub record Turn : Type 0 where
+  pub told : Outcome
+  pub a : List ℕ
+  pub b : List ℕ
+  pub probe : List ℕ
+  pub out : List ℕ
+
+-- such a turn
+abbrev pub turned : Outcome → List ℕ → List ℕ → List ℕ → List ℕ → Turn
+turned r a b probe o = record { told = r; a = a; b = b; probe = probe; out = o }
+
+-- a refusal of the program's own keeps the state
+abbrev pub refuses : Why → State → Outcome
+refuses y t = record { answer = answer.Refused y; state = t }
+
+-- an opening was accepted
+abbrev pub isOpened : Answer → Bool
+isOpened answer.Opened = true
+isOpened (answer.Taken n) = false
+isOpened (answer.Flushed n) = false
+isOpened (answer.Ran n) = false
+isOpened answer.Shut = false
+isOpened (answer.More n) = false
+isOpened (answer.Done n) = false
+isOpened (answer.Refused y) = false
+
+-- the session that a call hands back goes on
+abbrev pub goesOn : Reply → Outcome
+goesOn r = record { answer = r .answer; state = going (r .session) }
+
+-- "An accepted START begins afresh; a refused one keeps the old session"
+abbrev pub begins : State → Reply → Outcome
+begins t r = cond (isOpened (r .answer)) (goesOn r) (record { answer = r .answer; state = t })
+
+-- what a call leaves
+abbrev pub went : After → Turn
+went x = turned (goesOn (record { answer = x .answer; session = x .world .session })) (x .world .a) (x .world .b) (x .world .probe) (x .out)
+
+-- "NoStart: .. a good line other than START before any accepted START"
+unfoldable pub asks : State → List ℕ → List ℕ → List ℕ → List ℕ → After → Turn
+asks t a b probe o x = cond (t .started) (went x) (turned (refuses NoStart t) a b probe o)
+
+-- "DRAIN uses the room it names": the words behind that room stay
+unfoldable pub drainsIn : ℕ → World → List ℕ → After
+drainsIn room w o = let x = afterCall w (take (pairsNeed room) o) call.Drain in after (x .answer) (x .world) (x .out ++ drop (pairsNeed room) o)
+
+-- "BadLine is tested before NoStart"
+abbrev pub turnOf : Line → State → List ℕ → List ℕ → List ℕ → List ℕ → Turn
+turnOf (line.Start p m n) t a b probe o = turned (begins t (opens p m n (length a) (length b) (length probe))) a b probe o
+turnOf (line.Ask c) t a b probe o = asks t a b probe o (afterCall (world (t .session) a b probe) o c)
+turnOf (line.Drain room) t a b probe o = asks t a b probe o (drainsIn room (world (t .session) a b probe) o)
+turnOf line.Bad t a b probe o = turned (refuses BadLine t) a b probe o
+
+-- ---- the reply
+
+-- the state, the sheets, the output and the text of the reply
+pub record Left : Type 0 where
+  pub state : State
+  pub a : List ℕ
+  pub b : List ℕ
+  pub probe : List ℕ
+  pub out : List ℕ
+  pub text : List ℕ
+
+-- all of these
+abbrev pub left : State → List ℕ → List ℕ → List ℕ → List ℕ → List ℕ → Left
+left t a b probe o text = record { state = t; a = a; b = b; probe = probe; out = o; text = text }
+
+-- a turn, and its reply: "the pairs .. then" the answer
+abbrev pub replied : Turn → Left
+replied x = left (x .told .state) (x .a) (x .b) (x .probe) (x .out) (replyText (x .out) (x .told .answer))
+
+-- a line answered
+unfoldable pub answered : List ℕ → State → List ℕ → List ℕ → List ℕ → List ℕ → Left
+answered l t a b probe o = replied (turnOf (readLine l) t a b probe o)
+
+-- no line, no answer
+abbrev pub silent : State → List ℕ → List ℕ → List ℕ → List ℕ → Left
+silent t a b probe o = left t a b probe o []
+
+-- what a function leaves: n bytes of reply at the start of its buffer d, the other bytes as they were
+pub record Says (x : Left) (d : List ℕ) (t : State) (n : ℕ) (a b probe o e : List ℕ) : Type 0 where
+  pub same : left t a b probe o (x .text) ≡ x
+  pub text : Put d 0 (x .text) n e
+  pub most : n ≤ replyMost roomMost

@@ -1,0 +1,187 @@
+// One line answered: what it asks for is done on the lent sheets, and its reply is put into a lent buffer.
+use crate::printing::put_reply;
+use crate::reading::Line;
+use crate::reading::ROOM;
+use crate::reading::read_line;
+use calls::draining::drain;
+use calls::opening::new_session;
+use calls::opening::open;
+use calls::performing::perform;
+use calls::types::Answer;
+use calls::types::Call;
+use calls::types::Reply;
+use calls::types::Session;
+use calls::types::Why;
+use sheets::layout::PAIR;
+use sheets::layout::pairs_need;
+ghost use mathlib.Core.Path.{_≡_};
+ghost use Prim.Native.Nat.{_≤_};
+ghost use lib.ListN.{length};
+ghost use Rattle.sheets.specs.Layout.{pairsNeed};
+ghost use Rattle.calls.specs.Answers.{pairsOf};
+ghost use Rattle.calls.specs.Calls.{afterCall};
+ghost use Rattle.calls.specs.Work.{world};
+ghost use Rattle.lines.specs.Reading.{roomMost, readLine};
+ghost use Rattle.lines.specs.Answering.{unstarted, isOpened, goesOn, begins, turned, asks, drainsIn, turnOf, answered, Says};
+
+// The words of the output.
+pub const OUTPUT: usize = ROOM as usize * PAIR;
+
+// The bytes of the longest reply: 38 for each pair, and 25 for the answer.
+pub const REPLY: usize = 38 * ROOM as usize + 25;
+
+// Whether a START was accepted, and the session that it began.
+pub struct State {
+    pub started: bool,
+    pub session: Session,
+}
+
+// What a line is told, and the state after it.
+struct Outcome {
+    answer: Answer,
+    state: State,
+}
+
+// The state after a line, and the bytes of its reply.
+pub struct Answered {
+    pub state: State,
+    pub bytes: usize,
+}
+
+// Before any START.
+pub fn new_state() -> State
+    ensures { λ r. ⌜ r ≡ unstarted ⌝ }
+{
+    State {
+        started: false,
+        session: new_session(0, 0, 0),
+    }
+}
+
+fn is_opened(answer: Answer) -> bool
+    ensures { λ r. ⌜ r ≡ isOpened answer ⌝ }
+{
+    match answer {
+        Answer::Opened => true,
+        Answer::Taken(_) => false,
+        Answer::Flushed(_) => false,
+        Answer::Ran(_) => false,
+        Answer::Shut => false,
+        Answer::More(_) => false,
+        Answer::Done(_) => false,
+        Answer::Refused(_) => false,
+    }
+}
+
+// The session that a call hands back goes on.
+fn go_on(reply: Reply) -> Outcome
+    ensures { λ r. ⌜ r ≡ goesOn reply ⌝ }
+{
+    let answer = reply.answer;
+    let session = reply.session;
+    Outcome {
+        answer,
+        state: State {
+            started: true,
+            session,
+        },
+    }
+}
+
+// The session that a START opened, or the old state where it was refused.
+fn begin(state: State, reply: Reply) -> Outcome
+    ensures { λ r. ⌜ r ≡ begins state reply ⌝ }
+{
+    let answer = reply.answer;
+    if !is_opened(answer) {
+        return Outcome { answer, state };
+    }
+    go_on(reply)
+}
+
+// A call in a session; without one it is refused.
+fn ask(
+    state: State,
+    call: Call,
+    a: &mut [u32],
+    b: &mut [u32],
+    probe: &mut [u32],
+    out: &mut [u32],
+) -> Outcome
+    ensures { λ r. ⌜ turned r (now (a .exit)) (now (b .exit)) (now (probe .exit)) (now (out .exit)) ≡ asks state (now (a .entry)) (now (b .entry)) (now (probe .entry)) (now (out .entry)) (afterCall (world (state .session) (now (a .entry)) (now (b .entry)) (now (probe .entry))) (now (out .entry)) call) ⌝ }
+{
+    let started = state.started;
+    if !started {
+        return Outcome {
+            answer: Answer::Refused(Why::NoStart),
+            state,
+        };
+    }
+    let session = state.session;
+    go_on(perform(session, call, a, b, probe, out))
+}
+
+// The same of a drain, which is lent the first words of the output, those of the room that it names.
+fn ask_drain(
+    state: State,
+    room: u32,
+    a: &[u32],
+    b: &[u32],
+    probe: &[u32],
+    out: &mut [u32],
+) -> Outcome
+    requires { ⌜ pairsNeed room ≤ length (now out) ⌝ }
+    ensures { λ r. ⌜ turned r (now (a .entry)) (now (b .entry)) (now (probe .entry)) (now (out .exit)) ≡ asks state (now (a .entry)) (now (b .entry)) (now (probe .entry)) (now (out .entry)) (drainsIn room (world (state .session) (now (a .entry)) (now (b .entry)) (now (probe .entry))) (now (out .entry))) ⌝ }
+{
+    let started = state.started;
+    if !started {
+        return Outcome {
+            answer: Answer::Refused(Why::NoStart),
+            state,
+        };
+    }
+    let session = state.session;
+    let words = pairs_need(room);
+    go_on(drain(session, a, b, probe, &mut out[..words]))
+}
+
+// What a line is told. It answers with no more pairs than the output has room for.
+fn respond(
+    state: State,
+    line: &[u8],
+    a: &mut [u32],
+    b: &mut [u32],
+    probe: &mut [u32],
+    out: &mut [u32; OUTPUT],
+) -> Outcome
+    ensures { λ r. ⌜ (turned r (now (a .exit)) (now (b .exit)) (now (probe .exit)) (now (out .exit)) ≡ turnOf (readLine (now (line .entry))) state (now (a .entry)) (now (b .entry)) (now (probe .entry)) (now (out .entry))) × (pairsOf (r .answer) ≤ roomMost) ⌝ }
+{
+    match read_line(line) {
+        Line::Start(parts, slots, limit) => begin(state, open(parts, slots, limit, a, b, probe)),
+        Line::Ask(call) => ask(state, call, a, b, probe, out),
+        Line::Drain(room) => ask_drain(state, room, a, b, probe, out),
+        Line::Bad => Outcome {
+            answer: Answer::Refused(Why::BadLine),
+            state,
+        },
+    }
+}
+
+// Does what a line asks for, and puts its reply at the start of the buffer.
+pub fn answer_line(
+    state: State,
+    line: &[u8],
+    a: &mut [u32],
+    b: &mut [u32],
+    probe: &mut [u32],
+    out: &mut [u32; OUTPUT],
+    reply: &mut [u8; REPLY],
+) -> Answered
+    ensures { λ r. ⌜ Says (answered (now (line .entry)) state (now (a .entry)) (now (b .entry)) (now (probe .entry)) (now (out .entry))) (now (reply .entry)) (r .state) (r .bytes) (now (a .exit)) (now (b .exit)) (now (probe .exit)) (now (out .exit)) (now (reply .exit)) ⌝ }
+{
+    let outcome = respond(state, line, a, b, probe, out);
+    let answer = outcome.answer;
+    let bytes = put_reply(reply, out, answer);
+    let next = outcome.state;
+    Answered { state: next, bytes }
+}

@@ -1,0 +1,32 @@
+-- `pitbox::feed` meets its contract: every look at the input gets on, and the replies gathered stay within their buffer.
+-- Assumes nothing.
+use borrow.Author.Needs.{needs}
+use Prim.Native.Nat.{_-_, _≤_}
+use native.Mathlib.Omega.{arith}
+use lib.ListN.{length}
+use Rattle.pitbox.proofs.feed.Statement.{statement}
+use Rattle.pitbox.proofs.feed.Tie as tie
+
+abbrev Inv-loop : tie.InvT-loop
+Inv-loop input a₀ b₀ probe₀ out₀ reply₀ text₀ state₀ line₀ have₀ end₀ at₀ a b probe out reply text state line have end at = end ≤ length text
+
+abbrev μ-loop : tie.MeasureT-loop
+μ-loop input a₀ b₀ probe₀ out₀ reply₀ text₀ state₀ line₀ have₀ end₀ at₀ a b probe out reply text state line have end at = length input - at
+
+loop-less : tie.Need-loop-less Inv-loop μ-loop
+loop-less c = omega (arith, c .before .before .before .before .before .before .before .serve .ensures .1 (c .before .before .before .before .before .before .before .before .before .before .before .before .before .before .loop-test .taken))
+
+pub feed-spec : {M : Type 1} → statement M
+feed-spec =
+    tie.close
+    (tie.spec
+    Inv-loop
+    μ-loop
+    (λ c. search needs)
+    (λ c κs. search needs)
+    (λ c κs. search needs)
+    (λ c. search needs)
+    loop-less
+    (λ c. search needs)
+    (λ c κs. search needs)
+    (λ c. search needs))
