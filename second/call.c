@@ -6,7 +6,7 @@
  * A case is: the kind of the call and its three arguments; the record, as P,
  * M, N, clock, rows of A and B, closed A and B, 32 entry counts, position; the
  * lengths of the sheets A, B, probe and output; the words of these sheets. The
- * numbers have 1 to 10 digits and 32 bits; spaces and tabs part them. */
+ * numbers are decimal, of 32 bits; spaces and tabs part them. */
 #include <stdio.h>
 #include <stdlib.h>
 
@@ -16,7 +16,6 @@ enum {
     MOST_ROW_WORDS = WORDS_A_ROW * MOST_ROWS,
     MOST_PROBE_WORDS = WORDS_A_LIST * LISTS,
     MOST_OUTPUT_WORDS = WORDS_A_PAIR * 512,
-    MOST_DIGITS = 10,
     SHEETS = 4
 };
 
@@ -62,20 +61,17 @@ static void skip_line(void)
         continue;
 }
 
-/* False at the end of the line and for a token that is not a 32-bit number of
- * 1 to 10 digits. */
+/* False at the end of the line and for a token that is not a 32-bit number. */
 static bool read_number(uint32_t *number)
 {
     if (at_line_end())
         return false;
     uint64_t value = 0;
-    int digits = 0;
     int byte = peek_byte();
     for (; !is_blank(byte) && !is_end(byte); byte = peek_byte()) {
-        if (byte < '0' || byte > '9' || digits == MOST_DIGITS)
+        if (byte < '0' || byte > '9' || value > UINT32_MAX)
             return false;
         value = value * 10 + (uint64_t)(getchar() - '0');
-        digits++;
     }
     *number = (uint32_t)value;
     return value <= UINT32_MAX;

@@ -344,7 +344,7 @@ def spoilt(draws, call):
                           "blanks": 2, "zeros": 1, "more": 2, "cut": 1})
     if how == "token":
         tokens[at] = draws.pick([b"x", b"-1", b"+1", b"1.", b"0x1", b"4294967296", b"9999999999",
-                                 b"00000000001", b"18446744073709551617", b"1\r", b"1\0", b"\xff"])
+                                 b"42949672950", b"18446744073709551617", b"1\r", b"1\0", b"\xff"])
     elif how == "few":
         del tokens[draws.pick([0, 1, at, len(tokens) - 1]):]
     elif how == "kind":
@@ -360,7 +360,7 @@ def spoilt(draws, call):
         tokens[4 + POSITION + 1 + sheet] = draws.pick([b"%d" % beyond, b"4294967295"])
         tokens += [b"0"] * beyond
     elif how == "zeros":
-        tokens[at] = tokens[at].rjust(draws.pick([10, 11]), b"0")
+        tokens[at] = tokens[at].rjust(draws.pick([10, 11, 30]), b"0")
     elif how == "more":
         tokens += draws.pick([[b"5"], [b"x"], [b"99999999999"], [b"1", b"\0"]])
     elif how == "cut":

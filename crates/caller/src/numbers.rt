@@ -1,14 +1,13 @@
-// The numbers of a line, taken byte by byte: each has 1 to 10 decimal digits and 32 bits at most; blanks part them.
-
-const MOST_DIGITS: usize = 10;
+// The numbers of a line, taken byte by byte: decimal digits, 32 bits at most; blanks part them.
 
 const MOST_WORD: u64 = 4294967295;
 
-// How many numbers are whole, the one that is begun, and whether the line has any byte and can still be read.
+// How many numbers are whole, whether one is begun and its value so far, and whether the line has any byte and can still be
+// read.
 pub struct Line {
     pub count: usize,
+    pub inside: bool,
     pub value: u64,
-    pub digits: usize,
     pub begun: bool,
     pub good: bool,
 }
@@ -16,8 +15,8 @@ pub struct Line {
 pub fn new_line() -> Line {
     Line {
         count: 0,
+        inside: false,
         value: 0,
-        digits: 0,
         begun: false,
         good: true,
     }
@@ -27,8 +26,8 @@ pub fn new_line() -> Line {
 fn bad_line() -> Line {
     Line {
         count: 0,
+        inside: false,
         value: 0,
-        digits: 0,
         begun: true,
         good: false,
     }
@@ -41,17 +40,13 @@ fn is_blank(byte: u8) -> bool {
 // The line with one digit more.
 fn with_digit(line: Line, digit: u8) -> Line {
     let value = line.value;
-    let digits = line.digits;
-    if MOST_DIGITS <= digits {
-        return bad_line();
-    }
     if MOST_WORD < value {
         return bad_line();
     }
     Line {
         count: line.count,
+        inside: true,
         value: 10 * value + digit as u64,
-        digits: digits + 1,
         begun: true,
         good: true,
     }
@@ -61,11 +56,11 @@ fn with_digit(line: Line, digit: u8) -> Line {
 pub fn end_number(words: &mut [u32], line: Line) -> Line {
     let count = line.count;
     let value = line.value;
-    if line.digits == 0 {
+    if !line.inside {
         return Line {
             count,
+            inside: false,
             value,
-            digits: 0,
             begun: true,
             good: line.good,
         };
@@ -79,8 +74,8 @@ pub fn end_number(words: &mut [u32], line: Line) -> Line {
     words[count] = value as u32;
     Line {
         count: count + 1,
+        inside: false,
         value: 0,
-        digits: 0,
         begun: true,
         good: true,
     }
