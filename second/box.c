@@ -234,6 +234,17 @@ static bool both_closed(const session_record *record)
     return record->closed[SOURCE_A] && record->closed[SOURCE_B];
 }
 
+/* The refusals that evict and run have in common. */
+static refusal no_portion(const session_record *record, const lent_sheets *sheets,
+                          uint32_t partition)
+{
+    if (bad_sheet(record, sheets))
+        return BAD_SHEET;
+    if (partition >= record->partitions)
+        return BAD_PART;
+    return both_closed(record) ? CLOSED : NO_REFUSAL;
+}
+
 /* ---- open and close ---- */
 
 answer box_open(session_record *record, const lent_sheets *sheets,
@@ -318,12 +329,9 @@ answer box_arrive(session_record *record, const lent_sheets *sheets,
 answer box_evict(session_record *record, const lent_sheets *sheets,
                  uint32_t source, uint32_t partition)
 {
-    if (bad_sheet(record, sheets))
-        return refused(BAD_SHEET);
-    if (partition >= record->partitions)
-        return refused(BAD_PART);
-    if (both_closed(record))
-        return refused(CLOSED);
+    refusal why = no_portion(record, sheets, partition);
+    if (why != NO_REFUSAL)
+        return refused(why);
     return answered(FLUSHED, flush(record, sheets, (portion){ source, partition }));
 }
 
@@ -382,12 +390,9 @@ static uint32_t run_pairs(const session_record *record, const lent_sheets *sheet
 answer box_run(session_record *record, const lent_sheets *sheets,
                uint32_t source, uint32_t partition)
 {
-    if (bad_sheet(record, sheets))
-        return refused(BAD_SHEET);
-    if (partition >= record->partitions)
-        return refused(BAD_PART);
-    if (both_closed(record))
-        return refused(CLOSED);
+    refusal why = no_portion(record, sheets, partition);
+    if (why != NO_REFUSAL)
+        return refused(why);
 
     portion run = { source, partition };
     uint32_t list = list_of(record, run);

@@ -52,6 +52,7 @@ typedef enum { OPENED, TAKEN, FLUSHED, RAN, SHUT, MORE, DONE, REFUSED } answer_k
 
 /* Numbers 1 to 8 of the table of refusals; 9 and 10 are the program's. */
 typedef enum {
+    NO_REFUSAL = 0,
     BAD_SHEET = 1,
     BAD_KEY,
     BAD_PART,

@@ -1,5 +1,12 @@
-/* The call program: performs one call on a record and sheets given as numbers
- * on standard input, and prints the answer, the record and every word. */
+/* The call program: each line of standard input is one case, a call with a
+ * record and sheets, all as numbers; it performs the call and prints the
+ * answer, the record and every word. A line that is no case prints BAD. A line
+ * ends at LF or at the end of input, an empty rest giving no line.
+ *
+ * A case is: the kind of the call and its three arguments; the record, as P,
+ * M, N, clock, rows of A and B, closed A and B, 32 entry counts, position; the
+ * lengths of the sheets A, B, probe and output; the words of these sheets. The
+ * numbers are decimal, of 32 bits; spaces and tabs part them. */
 #include <stdio.h>
 #include <stdlib.h>
 
@@ -9,7 +16,6 @@ enum {
     MOST_ROW_WORDS = WORDS_A_ROW * MOST_ROWS,
     MOST_PROBE_WORDS = WORDS_A_LIST * LISTS,
     MOST_OUTPUT_WORDS = WORDS_A_PAIR * 512,
-    MOST_DIGITS = 10,
     SHEETS = 4
 };
 
@@ -24,28 +30,51 @@ typedef struct {
 
 /* ---- reading ---- */
 
-static bool is_blank(int byte)
-{
-    return byte == ' ' || byte == '\t' || byte == '\n';
-}
-
-/* False at the end of input and for a token that is not a 32-bit number of 1
- * to 10 digits. */
-static bool read_number(uint32_t *number)
+static int peek_byte(void)
 {
     int byte = getchar();
-    while (is_blank(byte))
-        byte = getchar();
+    if (byte != EOF)
+        ungetc(byte, stdin);
+    return byte;
+}
+
+static bool is_blank(int byte)
+{
+    return byte == ' ' || byte == '\t';
+}
+
+static bool is_end(int byte)
+{
+    return byte == EOF || byte == '\n';
+}
+
+static bool at_line_end(void)
+{
+    while (is_blank(peek_byte()))
+        getchar();
+    return is_end(peek_byte());
+}
+
+static void skip_line(void)
+{
+    while (!is_end(getchar()))
+        continue;
+}
+
+/* False at the end of the line and for a token that is not a 32-bit number. */
+static bool read_number(uint32_t *number)
+{
+    if (at_line_end())
+        return false;
     uint64_t value = 0;
-    int digits = 0;
-    for (; byte != EOF && !is_blank(byte); byte = getchar()) {
-        if (byte < '0' || byte > '9' || digits == MOST_DIGITS)
+    int byte = peek_byte();
+    for (; !is_blank(byte) && !is_end(byte); byte = peek_byte()) {
+        if (byte < '0' || byte > '9' || value > UINT32_MAX)
             return false;
-        value = value * 10 + (uint64_t)(byte - '0');
-        digits++;
+        value = value * 10 + (uint64_t)(getchar() - '0');
     }
     *number = (uint32_t)value;
-    return digits > 0 && value <= UINT32_MAX;
+    return value <= UINT32_MAX;
 }
 
 static bool read_numbers(uint32_t *numbers, uint32_t count)
@@ -114,6 +143,12 @@ static bool read_sheets(lent_sheets *sheets)
             return false;
     }
     return true;
+}
+
+static bool read_case(call *asked)
+{
+    return read_call_itself(asked) && read_record(&asked->record)
+        && read_sheets(&asked->sheets) && at_line_end();
 }
 
 static void free_sheets(lent_sheets *sheets)
@@ -190,15 +225,22 @@ static void print_call(const call *performed, answer given)
     print_sheet("OUT", &performed->sheets.output);
 }
 
-int main(void)
+static void answer_line(void)
 {
     call asked = { .kind = OPEN };
-    if (read_call_itself(&asked) && read_record(&asked.record) && read_sheets(&asked.sheets)) {
+    if (read_case(&asked)) {
         answer given = perform(&asked);
         print_call(&asked, given);
     } else {
         printf("BAD\n");
     }
     free_sheets(&asked.sheets);
+    skip_line();
+}
+
+int main(void)
+{
+    while (peek_byte() != EOF)
+        answer_line();
     return 0;
 }

@@ -1,4 +1,4 @@
-"""Cases for the call program: one call on a record and sheets."""
+"""Cases for the call program: a line with a call, a record and sheets."""
 
 import re
 
@@ -43,19 +43,22 @@ class Call:
         return b" ".join(b"%d" % token for token in self.tokens()) + b"\n"
 
 
-# What a call program may print: this line alone, or an answer, a record and four sheets.
+# What a call program may print for a line: this, or an answer, a record and four sheets.
 BAD = b"BAD\n"
-_GOOD = re.compile(rb"ANSWER (?:[0-6] [0-9]+|7 [1-7]|7 8 [0-9]+)\nSESSION(?: [0-9]+){41}\n"
-                   rb"A(?: [0-9]+)*\nB(?: [0-9]+)*\nPROBE(?: [0-9]+)*\nOUT(?: [0-9]+)*\n")
+_ANSWERS = re.compile(rb"(?:BAD\n|ANSWER (?:[0-6] [0-9]+|7 [1-7]|7 8 [0-9]+)\n"
+                      rb"SESSION(?: [0-9]+){41}\nA(?: [0-9]+)*\nB(?: [0-9]+)*\n"
+                      rb"PROBE(?: [0-9]+)*\nOUT(?: [0-9]+)*\n)*")
 
 
-def has_form(printed):
-    return printed == BAD or _GOOD.fullmatch(printed) is not None
+def has_form(printed, lines):
+    """Whether an output is an answer to each of so many lines."""
+    answers = printed.count(b"ANSWER") + printed.count(b"BAD")
+    return answers == lines and _ANSWERS.fullmatch(printed) is not None
 
 
 def read_answer(printed):
     """The answer's numbers, the record and the sheets of an output that has
-    the form and is not BAD."""
+    the form for one line and is not BAD."""
     lines = [[int(word) for word in line.split()[1:]] for line in printed.splitlines()]
     return lines[0], lines[1], lines[2:]
 
@@ -338,10 +341,10 @@ def spoilt(draws, call):
     at = draws.pick([draws.below(4), draws.below(12), draws.below(49), draws.below(len(tokens)),
                      len(tokens) - 1])
     how = draws.weighted({"token": 4, "few": 2, "kind": 1, "source": 1, "closed": 1, "length": 2,
-                          "blanks": 2, "zeros": 1, "more": 2})
+                          "blanks": 2, "zeros": 1, "more": 2, "cut": 1})
     if how == "token":
         tokens[at] = draws.pick([b"x", b"-1", b"+1", b"1.", b"0x1", b"4294967296", b"9999999999",
-                                 b"00000000001", b"18446744073709551617", b"1\r", b"1\0", b"\xff"])
+                                 b"42949672950", b"18446744073709551617", b"1\r", b"1\0", b"\xff"])
     elif how == "few":
         del tokens[draws.pick([0, 1, at, len(tokens) - 1]):]
     elif how == "kind":
@@ -357,16 +360,19 @@ def spoilt(draws, call):
         tokens[4 + POSITION + 1 + sheet] = draws.pick([b"%d" % beyond, b"4294967295"])
         tokens += [b"0"] * beyond
     elif how == "zeros":
-        tokens[at] = tokens[at].rjust(draws.pick([10, 11]), b"0")
+        tokens[at] = tokens[at].rjust(draws.pick([10, 11, 30]), b"0")
     elif how == "more":
         tokens += draws.pick([[b"5"], [b"x"], [b"99999999999"], [b"1", b"\0"]])
-    parted = draws.pick([b" ", b"\n", b"\t", b" \n\t "]) if how == "blanks" else b" "
-    return parted.join(tokens) + draws.pick([b"", b"\n", b" "])
+    elif how == "cut":
+        tokens[at] += b"\n"
+    parted = draws.pick([b"\t", b"  ", b" \t "]) if how == "blanks" else b" "
+    return parted.join(tokens) + draws.pick([b"", b" ", b"\t "])
 
 
 class CallCase:
-    """The input of one run of the call program. The call itself is None for
-    an input that is not its plain text."""
+    """The input of one case. A case that is alone needs a run of its own: it
+    has no LF at its end. The call itself is None for an input that is not its
+    plain text."""
 
     def __init__(self, seed, number):
         draws = Draws("call", seed, number)
@@ -386,8 +392,9 @@ class CallCase:
             change_word(draws, self.call)
         elif kind == "short":
             shorten(draws, self.call)
+        self.alone = kind == "spoilt" and draws.chance(0.2)
         if kind == "spoilt":
-            self.text = spoilt(draws, self.call)
+            self.text = spoilt(draws, self.call) + (b"" if self.alone else b"\n")
             self.call = None
         else:
             self.text = self.call.text()

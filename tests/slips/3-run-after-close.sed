@@ -1,4 +1,4 @@
 # A run goes on after both sources are closed.
 /^answer box_run/,/^}/ {
-    /both_closed/,/CLOSED/d
+    s/why != NO_REFUSAL/& \&\& why != CLOSED/
 }
