@@ -17,7 +17,7 @@ use Rattle.sheets.specs.Layout.{roomOf}
 use Rattle.sheets.specs.Rows.{hot}
 use Rattle.calls.specs.Answers.{refused, pairsOf}
 use Rattle.calls.specs.Calls.{After, after, joins, arrives, evicts, tries, runs, owed, drains, effect, settle, afterCall, fresh, opens}
-use Rattle.calls.specs.Refusals.{verdict, roomFor, makeRoom, idle, checks, Check, check, sizesFit, portionChecks, rowChecks, roomCheck}
+use Rattle.calls.specs.Refusals.{Check, check, verdict, sizesFit, roomFor, makeRoom, idle, portionChecks, rowChecks, roomCheck, tryChecks, checks}
 use Rattle.calls.specs.Work.{leaves, world}
 use Rattle.calls.specs.World.{World, countOf, rowsOf, flush, store, note, shut, move, sideOf}
 use Rattle.calls.specs.declared.types.Call.{Call}
