@@ -1,6 +1,5 @@
 // What is printed: an answer, a session record and words, through a buffer that is written out when it is full.
 use calls::types::Answer;
-use calls::types::Feed;
 use calls::types::Session;
 use calls::types::Why;
 use libc::STDOUT_FILENO;
