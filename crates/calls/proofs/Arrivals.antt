@@ -99,8 +99,8 @@ arrived-count s item room w r h e = (
   rw (e 0) (tally-le _ (countOf w (other s))),
 )
 
-pub pairs-fit : (s : Source) (item : Item) (w x : World) (n words : ℕ) → w ≡ x → n ≡ length (arrived s item x) → pairsNeed n ≤ words → pairsNeed (length (arrived s item w)) ≤ words
-pairs-fit s item w x n words e f h = rw (e, ← f) h
+pub pairs-counted : (s : Source) (item : Item) (w x : World) (n : ℕ) → w ≡ x → n ≡ length (arrived s item x) → n ≡ length (arrived s item w)
+pairs-counted s item w x n e f = rw e f
 
 -- making room keeps the sheets' lengths and the rows' counts, and moves the clock by at most one row each
 RowsOf : World → Type 0

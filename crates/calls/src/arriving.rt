@@ -194,15 +194,23 @@ fn count_pairs(
 }
 
 // Writes the pairs of the item, in a box that has room.
-fn write_pairs(session: Session, source: Source, item: Item, a: &[u32], b: &[u32], out: &mut [u32])
-    requires { ⌜ Rows session (length (now a)) (length (now b)) × ((probe : List ℕ) → pairsNeed (length (arrived source item (world session (now a) (now b) probe))) ≤ length (now out)) ⌝ }
+fn write_pairs(
+    session: Session,
+    source: Source,
+    item: Item,
+    n: usize,
+    a: &[u32],
+    b: &[u32],
+    out: &mut [u32],
+)
+    requires { ⌜ Rows session (length (now a)) (length (now b)) × ((probe : List ℕ) → n ≡ length (arrived source item (world session (now a) (now b) probe))) × (pairsNeed n ≤ length (now out)) ⌝ }
     ensures { λ _. ⌜ ((probe : List ℕ) → let w = world session (now (a .entry)) (now (b .entry)) probe in now (out .exit) ≡ putFrom 0 (tellAll source (λ i. item) (λ j. rowsOf w (other source) j .item) (arrived source item w)) (now (out .entry))) ⌝ }
 {
     let a_rows = session.a.rows;
     let b_rows = session.b.rows;
     match source {
-        Source::A => write_met(b, b_rows as usize, item, Source::A, a_rows, out),
-        Source::B => write_met(a, a_rows as usize, item, Source::B, b_rows, out),
+        Source::A => write_met(b, b_rows as usize, item, Source::A, a_rows, n, out),
+        Source::B => write_met(a, a_rows as usize, item, Source::B, b_rows, n, out),
     }
 }
 
@@ -221,7 +229,7 @@ fn take_row(
     ensures { λ r. ⌜ ((probe : List ℕ) → leaves r (now (a .exit)) (now (b .exit)) probe (now (out .exit)) ≡ joins source item (makeRoom room (world session (now (a .entry)) (now (b .entry)) probe)) (now (out .entry))) ⌝ }
 {
     let t = make_room(session, room, a, b);
-    write_pairs(t, source, item, a, b, out);
+    write_pairs(t, source, item, n as usize, a, b, out);
     let stored = store_row(t, source, item, a, b);
     Reply {
         answer: Answer::Taken(n),

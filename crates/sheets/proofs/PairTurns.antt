@@ -10,7 +10,7 @@ use native.Mathlib.Numerals.{add-one}
 use lib.Dec.{ltb}
 use lib.ListN.{length, getD}
 use borrow.Author.Count.{below-more}
-use borrow.Author.Tests.{lt-ltb}
+use borrow.Author.Tests.{lt-ltb, ltb-true, ltb-false}
 use Rattle.stamps.specs.declared.Source.{Source}
 use Rattle.stamps.specs.declared.Item.{Item}
 use Rattle.stamps.specs.declared.Row.{Row}
@@ -56,6 +56,11 @@ module _ (all : List Told) (o out : List ℕ) (w : ℕ) where
   unfolding putFrom
   handing-end h = (omega (arith, h .sum), h .rest)
 
+  -- all are handed over once as many are
+  pub handing-all : (xs : List Told) → Handing all xs o out w → length all ≤ w → out ≡ putFrom 0 all o
+  handing-all [] h b = handing-end h .1
+  handing-all (x ∷ xs) h b = absurd (omega (arith, h .sum))
+
 -- ---- an arrival
 
 -- the pairs of the new row with the rows from j on
@@ -76,27 +81,43 @@ pub ahead-all : (i : ℕ) (item : Item) (g : ℕ → Row) (m : ℕ) → ahead i 
 unfolding arrivalPairs
 ahead-all i item g m = rw sub-zero
 
--- what is written, then what is ahead, is the whole
-pub record Arriving (s : Source) (new : ℕ) (item : Item) (g : ℕ → Row) (m : ℕ) (o out : List ℕ) (j w : ℕ) : Type 0 where
+-- what is written, then what is ahead, is the whole, and that has n pairs
+pub record Arriving (s : Source) (new : ℕ) (item : Item) (g : ℕ → Row) (m n : ℕ) (o out : List ℕ) (j w : ℕ) : Type 0 where
   pub few : w ≤ j
+  pub all : n ≡ length (arrivalPairs new item g m)
   pub hands : Handing (tellAll s (λ i. item) (λ k. g k .item) (arrivalPairs new item g m)) (tellAll s (λ i. item) (λ k. g k .item) (ahead new item g m j)) o out w
 
-pub arriving-first : (s : Source) (new : ℕ) (item : Item) (g : ℕ → Row) (m : ℕ) (o : List ℕ) → Arriving s new item g m o o 0 0
-arriving-first s new item g m o = record { few = omega arith; hands = rw ahead-all (handing-first _ o) }
+pub arriving-first : (s : Source) (new : ℕ) (item : Item) (g : ℕ → Row) (m n : ℕ) (o : List ℕ) → n ≡ length (arrivalPairs new item g m) → Arriving s new item g m n o o 0 0
+arriving-first s new item g m n o e = record { few = omega arith; all = e; hands = rw ahead-all (handing-first _ o) }
 
-module _ (s : Source) (new : ℕ) (item : Item) (g : ℕ → Row) (m : ℕ) (o out : List ℕ) (j w : ℕ) (h : Arriving s new item g m o out j w) where
-  pub arriving-one : (out′ : List ℕ) → j < m → met item (g j) ≡ true → out′ ≡ putPair w (tell s (record { a = new; b = j }) item (g j .item)) out
-      → Arriving s new item g m o out′ (j + 1) (w + 1)
-  arriving-one out′ b e k = record { few = omega (arith, h .few); hands = handing-next _ o out w _ _ out′ (rw (ahead-one new item g m j b e) at (h .hands)) k }
+module _ (s : Source) (new : ℕ) (item : Item) (g : ℕ → Row) (m n : ℕ) (o out : List ℕ) (j w : ℕ) (h : Arriving s new item g m n o out j w) where
+  all-told : length (tellAll s (λ i. item) (λ k. g k .item) (arrivalPairs new item g m)) ≡ n
+  all-told = length-tellAll s (λ i. item) (λ k. g k .item) (arrivalPairs new item g m) ∙ sym (h .all)
 
-  pub arriving-room : j < m → met item (g j) ≡ true → pairsNeed (length (arrivalPairs new item g m)) ≤ length o → pairsNeed (w + 1) ≤ length out
-  arriving-room b e k = handing-room _ o out w _ _ (rw (ahead-one new item g m j b e) at (h .hands)) (rw length-tellAll k)
+  -- another row as long as a pair is to come
+  pub arriving-more : w < n → j < m
+  arriving-more b = go (ltb j m) refl
+    where
+      go : (u : Bool) → ltb j m ≡ u → j < m
+      go true e = ltb-true j m e
+      go false e = absurd (omega (arith, all-told, handing-end _ o out w (rw (ahead-end new item g m j (ltb-false j m e)) at (h .hands)) .0))
 
-  pub arriving-none : j < m → met item (g j) ≡ false → Arriving s new item g m o out (j + 1) w
-  arriving-none b e = record { few = omega (arith, h .few); hands = rw (ahead-none new item g m j b e) at (h .hands) }
+  pub arriving-one : (out′ : List ℕ) → w < n → met item (g j) ≡ true → out′ ≡ putPair w (tell s (record { a = new; b = j }) item (g j .item)) out
+      → Arriving s new item g m n o out′ (j + 1) (w + 1)
+  arriving-one out′ b e k = record {
+    few = omega (arith, h .few);
+    all = h .all;
+    hands = handing-next _ o out w _ _ out′ (rw (ahead-one new item g m j (arriving-more b) e) at (h .hands)) k;
+  }
 
-  pub arriving-end : m ≤ j → out ≡ putFrom 0 (tellAll s (λ i. item) (λ k. g k .item) (arrivalPairs new item g m)) o
-  arriving-end b = handing-end _ o out w (rw (ahead-end new item g m j b) at (h .hands)) .1
+  pub arriving-room : w < n → met item (g j) ≡ true → pairsNeed n ≤ length o → pairsNeed (w + 1) ≤ length out
+  arriving-room b e k = handing-room _ o out w _ _ (rw (ahead-one new item g m j (arriving-more b) e) at (h .hands)) (rw all-told k)
+
+  pub arriving-none : w < n → met item (g j) ≡ false → Arriving s new item g m n o out (j + 1) w
+  arriving-none b e = record { few = omega (arith, h .few); all = h .all; hands = rw (ahead-none new item g m j (arriving-more b) e) at (h .hands) }
+
+  pub arriving-end : n ≤ w → out ≡ putFrom 0 (tellAll s (λ i. item) (λ k. g k .item) (arrivalPairs new item g m)) o
+  arriving-end b = handing-all _ o out w _ (h .hands) (rw all-told b)
 
 -- the count, told before the flush
 pub gone-none : (parts q : ℕ) (item : Item) (f : ℕ → Row) (n : ℕ) → partOf parts item ≡ q → (clock : ℕ) → 0 ≡ tally (λ j. met item (flushed parts q clock f j)) n

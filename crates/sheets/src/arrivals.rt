@@ -50,14 +50,23 @@ pub fn count_met_after(sheet: &[u32], rows: usize, item: Item, parts: u32, part:
     count_met(sheet, rows, item)
 }
 
-// Writes the pairs of row new of the source, whose item this is; sheet is the other source's.
-pub fn write_met(sheet: &[u32], rows: usize, item: Item, source: Source, new: u32, out: &mut [u32])
-    requires { ⌜ (rowsNeed rows ≤ length (now sheet)) × (rows ≤ 4096) × (pairsNeed (length (arrivalPairs new item (rowAt (now sheet)) rows)) ≤ length (now out)) ⌝ }
+// Writes the n pairs of row new of the source, whose item this is, and looks no further than the last of them; sheet is the
+// other source's.
+pub fn write_met(
+    sheet: &[u32],
+    rows: usize,
+    item: Item,
+    source: Source,
+    new: u32,
+    n: usize,
+    out: &mut [u32],
+)
+    requires { ⌜ (rowsNeed rows ≤ length (now sheet)) × (rows ≤ 4096) × (n ≡ length (arrivalPairs new item (rowAt (now sheet)) rows)) × (pairsNeed n ≤ length (now out)) ⌝ }
     ensures { λ _. ⌜ now (out .exit) ≡ putFrom 0 (tellAll source (λ i. item) (λ j. rowAt (now (sheet .entry)) j .item) (arrivalPairs new item (rowAt (now (sheet .entry))) rows)) (now (out .entry)) ⌝ }
 {
     let mut w: usize = 0;
     let mut i: usize = 0;
-    while i < rows {
+    while w < n {
         let row = i;
         i += 1;
         if is_met(sheet, row, item) {

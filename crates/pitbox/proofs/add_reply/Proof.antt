@@ -9,22 +9,34 @@ use Rattle.pitbox.proofs.add_reply.Statement.{statement}
 use Rattle.pitbox.proofs.add_reply.Tie as tie
 
 slice-aggregate-put-text : tie.Need-slice-aggregate-put-text
-slice-aggregate-put-text c = sym (length-take-le _ _ (c .before .before .before .before .before .pre .2))
+slice-aggregate-put-text c =
+    let entry = c .before .before .before .before .before in
+    sym (length-take-le _ _ (entry .pre .2))
 
 put-text-requires : tie.Need-put-text-requires
-put-text-requires c κs = rw (length-take-le _ _ (c .before .before .before .before .before .pre .2)) (omega arith)
+put-text-requires c κs =
+    let entry = c .before .before .before .before .before in
+    rw (length-take-le _ _ (entry .pre .2)) (omega arith)
 
 returns : tie.Need-returns
-returns c = omega (arith, c .before .before .put-text .ensures .next, length-take-le (c .before .before .before .before .before .before .before .before .args .bytes) (now (c .before .before .before .before .before .before .before .before .args .reply)) (c .before .before .before .before .before .before .before .before .pre .2))
+returns c =
+    let entry = c .before .before .before .before .before .before .before .before in
+    omega (arith, c .before .before .put-text .ensures .next, length-take-le (entry .args .bytes) (now (entry .args .reply)) (entry .pre .2))
 
 slice-aggregate-put-text-2 : tie.Need-slice-aggregate-put-text-2
-slice-aggregate-put-text-2 c = sym (length-take-le _ _ (c .before .before .before .before .before .before .before .pre .2))
+slice-aggregate-put-text-2 c =
+    let entry = c .before .before .before .before .before .before .before in
+    sym (length-take-le _ _ (entry .pre .2))
 
 put-text-requires-2 : tie.Need-put-text-requires-2
-put-text-requires-2 c κs = rw (length-take-le _ _ (c .before .before .before .before .before .before .before .pre .2)) (omega arith)
+put-text-requires-2 c κs =
+    let entry = c .before .before .before .before .before .before .before in
+    rw (length-take-le _ _ (entry .pre .2)) (omega arith)
 
 returns-2 : tie.Need-returns-2
-returns-2 c = omega (arith, c .before .before .put-text2 .ensures .next, length-take-le (c .before .before .before .before .before .before .before .before .before .before .args .bytes) (now (c .before .before .before .before .before .before .before .before .before .before .args .reply)) (c .before .before .before .before .before .before .before .before .before .before .pre .2))
+returns-2 c =
+    let entry = c .before .before .before .before .before .before .before .before .before .before in
+    omega (arith, c .before .before .put-text2 .ensures .next, length-take-le (entry .args .bytes) (now (entry .args .reply)) (entry .pre .2))
 
 pub add-reply-spec : {M : Type 1} → statement M
 add-reply-spec =

@@ -14,7 +14,10 @@ abbrev μ-loop : tie.MeasureT-loop
 μ-loop input a₀ b₀ probe₀ out₀ reply₀ text₀ state₀ line₀ have₀ end₀ at₀ a b probe out reply text state line have end at = length input - at
 
 loop-less : tie.Need-loop-less Inv-loop μ-loop
-loop-less c = omega (arith, c .before .before .before .before .before .before .before .serve .ensures .1 (c .before .before .before .before .before .before .before .before .before .before .before .before .before .before .loop-test .taken))
+loop-less c =
+    let at-serve = c .before .before .before .before .before .before .before in
+    let at-loop-test = at-serve .before .before .before .before .before .before .before in
+    omega (arith, at-serve .serve .ensures .1 (at-loop-test .loop-test .taken))
 
 pub feed-spec : {M : Type 1} → statement M
 feed-spec =

@@ -9,30 +9,16 @@ use Rattle.sheets.specs.Layout.{rowAt}
 use Rattle.calls.proofs.arriving.find_room.Statement.{statement}
 use Rattle.calls.proofs.arriving.find_room.Tie as tie
 
-cast-a-rows : tie.Need-cast-a-rows
-cast-a-rows c = search needs
-
-cast-b-rows : tie.Need-cast-b-rows
-cast-b-rows c = search needs
-
-count-memory-requires : tie.Need-count-memory-requires
-count-memory-requires c κs = search needs
-
-count-memory-requires-2 : tie.Need-count-memory-requires-2
-count-memory-requires-2 c κs = search needs
-
 add-held : tie.Need-add-held
-add-held c = omega (arith, memory-few (rowAt (c .before .before .before .before .before .before .args .a .now)) (c .before .before .before .before .before .before .args .session .a .rows) (c .before .count-memory .result) (c .before .count-memory .ensures), memory-few (rowAt (c .before .before .before .before .before .before .args .b .now)) (c .before .before .before .before .before .before .args .session .b .rows) (c .count-memory2 .result) (c .count-memory2 .ensures), c .before .before .before .before .before .before .pre .a-few, c .before .before .before .before .before .before .pre .b-few)
-
-cast-if1 : tie.Need-cast-if1
-cast-if1 c = search needs
-
-find-victim-requires : tie.Need-find-victim-requires
-find-victim-requires c κs = search needs
+add-held c =
+    let entry = c .before .before .before .before .before .before in
+    omega (arith, memory-few (rowAt (entry .args .a .now)) (entry .args .session .a .rows) (c .before .count-memory .result) (c .before .count-memory .ensures), memory-few (rowAt (entry .args .b .now)) (entry .args .session .b .rows) (c .count-memory2 .result) (c .count-memory2 .ensures), entry .pre .a-few, entry .pre .b-few)
 
 returns : tie.Need-returns
 unfolding roomFor
-returns c = λ probe. rw (← c .before .before .before .before .count-memory .ensures, ← c .before .before .before .count-memory2 .ensures, le-leb _ _ (c .before .if1 .taken), ← c .find-victim .ensures)
+returns c =
+    let at-count-memory = c .before .before .before .before in
+    λ probe. rw (← at-count-memory .count-memory .ensures, ← c .before .before .before .count-memory2 .ensures, le-leb _ _ (c .before .if1 .taken), ← c .find-victim .ensures)
 
 returns-2 : tie.Need-returns-2
 unfolding roomFor
@@ -42,12 +28,12 @@ pub find-room-spec : {M : Type 1} → statement M
 find-room-spec =
     tie.close
     (tie.spec
-    cast-a-rows
-    cast-b-rows
-    count-memory-requires
-    count-memory-requires-2
+    (λ c. search needs)
+    (λ c. search needs)
+    (λ c κs. search needs)
+    (λ c κs. search needs)
     add-held
-    cast-if1
-    find-victim-requires
+    (λ c. search needs)
+    (λ c κs. search needs)
     returns
     returns-2)

@@ -9,37 +9,24 @@ use Rattle.calls.proofs.Settling.{settle-no, settle-good}
 use Rattle.calls.proofs.closing.close.Statement.{statement}
 use Rattle.calls.proofs.closing.close.Tie as tie
 
-check-close-requires : tie.Need-check-close-requires
-check-close-requires c κs = search needs
-
-enum-known-why : tie.Need-enum-known-why
-enum-known-why c = search needs
-
-enum-told : tie.Need-enum-told
-enum-told c = search needs
-
-feed-of-requires : tie.Need-feed-of-requires
-feed-of-requires c κs = search needs
-
-with-feed-requires : tie.Need-with-feed-requires
-with-feed-requires c κs = search needs
-
 returns : tie.Need-returns
 unfolding checks
 returns c = λ o. settle-no _ o _ _ (sym (c .before .before .before .check-close .ensures) ∙ c .before .why .given .1)
 
 returns-2 : tie.Need-returns-2
 unfolding checks effect shut
-returns-2 c = λ o. settle-good _ o _ _ (sym (c .before .before .before .before .check-close .ensures) ∙ c .before .before .enum-told .given .1) (rw (c .with-feed .ensures, c .before .feed-of .ensures))
+returns-2 c =
+    let at-check-close = c .before .before .before .before in
+    λ o. settle-good _ o _ _ (sym (at-check-close .check-close .ensures) ∙ c .before .before .enum-told .given .1) (rw (c .with-feed .ensures, c .before .feed-of .ensures))
 
 pub close-spec : {M : Type 1} → statement M
 close-spec =
     tie.close
     (tie.spec
-    check-close-requires
-    enum-known-why
-    enum-told
-    feed-of-requires
-    with-feed-requires
+    (λ c κs. search needs)
+    (λ c. search needs)
+    (λ c. search needs)
+    (λ c κs. search needs)
+    (λ c κs. search needs)
     returns
     returns-2)

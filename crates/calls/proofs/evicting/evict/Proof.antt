@@ -8,41 +8,32 @@ use Rattle.calls.proofs.Settling.{settle-no, settle-good, evicted, good
 use Rattle.calls.proofs.evicting.evict.Statement.{statement}
 use Rattle.calls.proofs.evicting.evict.Tie as tie
 
-check-portion-requires : tie.Need-check-portion-requires
-check-portion-requires c κs = search needs
-
-enum-known-why : tie.Need-enum-known-why
-enum-known-why c = search needs
-
-enum-told : tie.Need-enum-told
-enum-told c = search needs
-
 clear-requires : tie.Need-clear-requires
-clear-requires c κs = good-rows _ _ _ _ _ (sym (c .before .before .before .before .check-portion .ensures) ∙ c .before .before .enum-told .given .1)
+clear-requires c κs =
+    let at-check-portion = c .before .before .before .before in
+    good-rows _ _ _ _ _ (sym (at-check-portion .check-portion .ensures) ∙ c .before .before .enum-told .given .1)
 
 returns : tie.Need-returns
 unfolding checks
 returns c = λ o. settle-no _ o _ _ (sym (c .before .before .before .check-portion .ensures) ∙ c .before .why .given .1)
 
-same-length : tie.Need-same-length
-same-length c = search needs
-
-same-length-2 : tie.Need-same-length-2
-same-length-2 c = search needs
-
 returns-2 : tie.Need-returns-2
 unfolding checks effect
-returns-2 c = λ o. settle-good _ o _ _ (sym (c .before .before .before .before .before .before .before .before .before .before .check-portion .ensures) ∙ c .before .before .before .before .before .before .before .before .enum-told .given .1) (evicted _ _ _ _ _ _ _ _ _ _ o (c .before .before .before .before .before .clear .ensures))
+returns-2 c =
+    let at-clear = c .before .before .before .before .before in
+    let at-enum-told = at-clear .before .before .before in
+    let at-check-portion = at-enum-told .before .before in
+    λ o. settle-good _ o _ _ (sym (at-check-portion .check-portion .ensures) ∙ at-enum-told .enum-told .given .1) (evicted _ _ _ _ _ _ _ _ _ _ o (at-clear .clear .ensures))
 
 pub evict-spec : {M : Type 1} → statement M
 evict-spec =
     tie.close
     (tie.spec
-    check-portion-requires
-    enum-known-why
-    enum-told
+    (λ c κs. search needs)
+    (λ c. search needs)
+    (λ c. search needs)
     clear-requires
     returns
-    same-length
-    same-length-2
+    (λ c. search needs)
+    (λ c. search needs)
     returns-2)

@@ -5,15 +5,9 @@ use Rattle.calls.specs.Refusals.{verdict}
 use Rattle.calls.proofs.refusals.check_close.Statement.{statement}
 use Rattle.calls.proofs.refusals.check_close.Tie as tie
 
-session-fits-requires : tie.Need-session-fits-requires
-session-fits-requires c κs = search needs
-
 returns : tie.Need-returns
 unfolding verdict
 returns c = rw (← c .before .session-fits .ensures, c .if1 .taken)
-
-feed-of-requires : tie.Need-feed-of-requires
-feed-of-requires c κs = search needs
 
 returns-2 : tie.Need-returns-2
 unfolding verdict
@@ -25,4 +19,4 @@ returns-3 c = rw (← c .before .before .before .session-fits .ensures, c .befor
 
 pub check-close-spec : {M : Type 1} → statement M
 check-close-spec =
-    tie.close (tie.spec session-fits-requires returns feed-of-requires returns-2 returns-3)
+    tie.close (tie.spec (λ c κs. search needs) returns (λ c κs. search needs) returns-2 returns-3)

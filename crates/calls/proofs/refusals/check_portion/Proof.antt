@@ -6,9 +6,6 @@ use Rattle.calls.specs.Refusals.{verdict}
 use Rattle.calls.proofs.refusals.check_portion.Statement.{statement}
 use Rattle.calls.proofs.refusals.check_portion.Tie as tie
 
-session-fits-requires : tie.Need-session-fits-requires
-session-fits-requires c κs = search needs
-
 returns : tie.Need-returns
 unfolding verdict
 returns c = rw (← c .before .session-fits .ensures, c .if1 .taken)
@@ -19,12 +16,18 @@ returns-2 c = rw (← c .before .before .before .session-fits .ensures, c .befor
 
 returns-3 : tie.Need-returns-3
 unfolding verdict
-returns-3 c = rw (← c .before .before .before .before .before .session-fits .ensures, c .before .before .before .before .if1 .left, lt-leb _ _ (c .before .before .if2 .left), c .if3 .taken)
+returns-3 c =
+    let at-if1 = c .before .before .before .before in
+    let at-session-fits = at-if1 .before in
+    rw (← at-session-fits .session-fits .ensures, at-if1 .if1 .left, lt-leb _ _ (c .before .before .if2 .left), c .if3 .taken)
 
 returns-4 : tie.Need-returns-4
 unfolding verdict
-returns-4 c = rw (← c .before .before .before .before .before .session-fits .ensures, c .before .before .before .before .if1 .left, lt-leb _ _ (c .before .before .if2 .left), c .if3 .left)
+returns-4 c =
+    let at-if1 = c .before .before .before .before in
+    let at-session-fits = at-if1 .before in
+    rw (← at-session-fits .session-fits .ensures, at-if1 .if1 .left, lt-leb _ _ (c .before .before .if2 .left), c .if3 .left)
 
 pub check-portion-spec : {M : Type 1} → statement M
 check-portion-spec =
-    tie.close (tie.spec session-fits-requires returns returns-2 returns-3 returns-4)
+    tie.close (tie.spec (λ c κs. search needs) returns returns-2 returns-3 returns-4)

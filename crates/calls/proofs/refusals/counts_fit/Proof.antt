@@ -15,21 +15,6 @@ Inv-loop counts lists fits₀ i₀ fits i = (i ≤ lists) × (fits ≡ countsFit
 abbrev μ-loop : tie.MeasureT-loop
 μ-loop counts lists fits₀ i₀ fits i = lists - i
 
-loop-holds : tie.Need-loop-holds Inv-loop μ-loop
-loop-holds c = search needs
-
-mul-fits : tie.Need-mul-fits Inv-loop μ-loop
-mul-fits c = search needs
-
-element-copy-out-fits : tie.Need-element-copy-out-fits Inv-loop μ-loop
-element-copy-out-fits c = search needs
-
-add-i : tie.Need-add-i Inv-loop μ-loop
-add-i c = search needs
-
-loop-less : tie.Need-loop-less Inv-loop μ-loop
-loop-less c = search needs
-
 loop-again : tie.Need-loop-again Inv-loop μ-loop
 loop-again c = (omega arith, rw (add-one, c .before .before .loop .inv .1))
 
@@ -42,10 +27,10 @@ counts-fit-spec =
     (tie.spec
     Inv-loop
     μ-loop
-    loop-holds
-    mul-fits
-    element-copy-out-fits
-    add-i
-    loop-less
+    (λ c. search needs)
+    (λ c. search needs)
+    (λ c. search needs)
+    (λ c. search needs)
+    (λ c. search needs)
     loop-again
     returns)

@@ -7,23 +7,19 @@ use Rattle.calls.proofs.Checks.{sizes-are, session-good, session-number
 use Rattle.calls.proofs.refusals.session_fits.Statement.{statement}
 use Rattle.calls.proofs.refusals.session_fits.Tie as tie
 
-sizes-fit-requires : tie.Need-sizes-fit-requires
-sizes-fit-requires c κs = search needs
-
-numbers-fit-requires : tie.Need-numbers-fit-requires
-numbers-fit-requires c κs = search needs
-
-cast-counts-fit : tie.Need-cast-counts-fit
-cast-counts-fit c = search needs
-
-mul-counts-fit : tie.Need-mul-counts-fit
-mul-counts-fit c = search needs
-
 counts-fit-requires : tie.Need-counts-fit-requires
-counts-fit-requires c κs = omega (arith, sizes-are (c .before .before .before .before .before .before .args .session .parts) (c .before .before .before .before .before .before .args .session .slots) (c .before .before .before .before .before .before .args .session .limit) (c .before .before .before .before .before .before .args .a) (c .before .before .before .before .before .before .args .b) (c .before .before .before .before .before .before .args .probe) (sym (c .before .before .before .before .before .sizes-fit .ensures) ∙ c .before .before .before .before .if1 .taken) .parts)
+counts-fit-requires c κs =
+    let at-if1 = c .before .before .before .before in
+    let at-sizes-fit = at-if1 .before in
+    let entry = at-sizes-fit .before in
+    omega (arith, sizes-are (entry .args .session .parts) (entry .args .session .slots) (entry .args .session .limit) (entry .args .a) (entry .args .b) (entry .args .probe) (sym (at-sizes-fit .sizes-fit .ensures) ∙ at-if1 .if1 .taken) .parts)
 
 returns : tie.Need-returns
-returns c = session-good _ _ _ _ _ (sym (c .before .before .before .before .before .before .sizes-fit .ensures) ∙ c .before .before .before .before .before .if1 .taken) (sym (c .before .before .before .before .numbers-fit .ensures) ∙ c .before .before .before .if2 .taken) (c .counts-fit .ensures)
+returns c =
+    let at-numbers-fit = c .before .before .before .before in
+    let at-if1 = at-numbers-fit .before in
+    let at-sizes-fit = at-if1 .before in
+    session-good _ _ _ _ _ (sym (at-sizes-fit .sizes-fit .ensures) ∙ at-if1 .if1 .taken) (sym (at-numbers-fit .numbers-fit .ensures) ∙ c .before .before .before .if2 .taken) (c .counts-fit .ensures)
 
 returns-2 : tie.Need-returns-2
 returns-2 c = session-numbers _ _ _ _ (sym (c .before .before .before .sizes-fit .ensures) ∙ c .before .before .if1 .taken) (sym (c .before .numbers-fit .ensures) ∙ c .if2 .left)
@@ -35,10 +31,10 @@ pub session-fits-spec : {M : Type 1} → statement M
 session-fits-spec =
     tie.close
     (tie.spec
-    sizes-fit-requires
-    numbers-fit-requires
-    cast-counts-fit
-    mul-counts-fit
+    (λ c κs. search needs)
+    (λ c κs. search needs)
+    (λ c. search needs)
+    (λ c. search needs)
     counts-fit-requires
     returns
     returns-2

@@ -7,55 +7,43 @@ use Rattle.calls.proofs.Runs.{run-idle, run-crowded, run-upto, upto-lis
 use Rattle.calls.proofs.running.run_portion.Statement.{statement}
 use Rattle.calls.proofs.running.run_portion.Tie as tie
 
-find-task-requires : tie.Need-find-task-requires
-find-task-requires c κs = search needs
-
-enum-told : tie.Need-enum-told
-enum-told c = search needs
-
-enum-told-2 : tie.Need-enum-told-2
-enum-told-2 c = search needs
-
-enum-known-last : tie.Need-enum-known-last
-enum-known-last c = search needs
-
 run-upto-requires : tie.Need-run-upto-requires
-run-upto-requires c κs = (c .before .before .before .before .before .before .before .before .before .before .before .pre .0, upto-listed (c .before .before .before .before .before .before .before .before .before .before .before .args .source) (c .before .before .before .before .before .before .before .before .before .before .before .args .session) (c .before .before .before .before .before .before .before .before .before .before .before .args .own .now) (c .before .before .before .before .before .before .before .before .before .before .before .args .facing .now) (c .before .before .before .before .before .before .before .before .before .before .before .args .probe .now) (c .before .before .before .before .before .before .before .before .before .before .before .args .part) _ (c .before .before .before .before .before .before .before .before .before .before .before .pre .0) (c .before .before .before .before .before .before .before .before .before .before .before .pre .1) (sym (c .before .before .before .last .given .1) ∙ c .before .before .before .before .before .find-task .ensures))
-
-same-length : tie.Need-same-length
-same-length c = search needs
+run-upto-requires c κs =
+    let at-find-task = c .before .before .before .before .before in
+    let entry = at-find-task .before .before .before .before .before .before in
+    (entry .pre .0, upto-listed (entry .args .source) (entry .args .session) (entry .args .own .now) (entry .args .facing .now) (entry .args .probe .now) (entry .args .part) _ (entry .pre .0) (entry .pre .1) (sym (c .before .before .before .last .given .1) ∙ at-find-task .find-task .ensures))
 
 returns : tie.Need-returns
-returns c = run-idle (worldFrom (c .before .before .before .before .before .before .before .before .args .source) (c .before .before .before .before .before .before .before .before .args .session) (c .before .before .before .before .before .before .before .before .args .own .now) (c .before .before .before .before .before .before .before .before .args .facing .now) (c .before .before .before .before .before .before .before .before .args .probe .now)) (c .before .before .before .before .before .before .before .before .args .source) (c .before .before .before .before .before .before .before .before .args .part) _ (sym (c .enum-told .given .1) ∙ c .before .before .find-task .ensures)
-
-same-length-2 : tie.Need-same-length-2
-same-length-2 c = search needs
+returns c =
+    let entry = c .before .before .before .before .before .before .before .before in
+    run-idle (worldFrom (entry .args .source) (entry .args .session) (entry .args .own .now) (entry .args .facing .now) (entry .args .probe .now)) (entry .args .source) (entry .args .part) _ (sym (c .enum-told .given .1) ∙ c .before .before .find-task .ensures)
 
 returns-2 : tie.Need-returns-2
-returns-2 c = run-crowded (worldFrom (c .before .before .before .before .before .before .before .before .args .source) (c .before .before .before .before .before .before .before .before .args .session) (c .before .before .before .before .before .before .before .before .args .own .now) (c .before .before .before .before .before .before .before .before .args .facing .now) (c .before .before .before .before .before .before .before .before .args .probe .now)) (c .before .before .before .before .before .before .before .before .args .source) (c .before .before .before .before .before .before .before .before .args .part) _ (sym (c .enum-told2 .given .1) ∙ c .before .before .find-task .ensures)
-
-same-length-3 : tie.Need-same-length-3
-same-length-3 c = search needs
-
-same-length-4 : tie.Need-same-length-4
-same-length-4 c = search needs
+returns-2 c =
+    let entry = c .before .before .before .before .before .before .before .before in
+    run-crowded (worldFrom (entry .args .source) (entry .args .session) (entry .args .own .now) (entry .args .facing .now) (entry .args .probe .now)) (entry .args .source) (entry .args .part) _ (sym (c .enum-told2 .given .1) ∙ c .before .before .find-task .ensures)
 
 returns-3 : tie.Need-returns-3
-returns-3 c = run-upto (worldFrom (c .before .before .before .before .before .before .before .before .before .before .before .before .before .before .before .before .args .source) (c .before .before .before .before .before .before .before .before .before .before .before .before .before .before .before .before .args .session) (c .before .before .before .before .before .before .before .before .before .before .before .before .before .before .before .before .args .own .now) (c .before .before .before .before .before .before .before .before .before .before .before .before .before .before .before .before .args .facing .now) (c .before .before .before .before .before .before .before .before .before .before .before .before .before .before .before .before .args .probe .now)) (c .before .before .before .before .before .before .before .before .before .before .before .before .before .before .before .before .args .source) (c .before .before .before .before .before .before .before .before .before .before .before .before .before .before .before .before .args .part) (c .before .before .before .before .before .before .before .before .before .before .before .before .before .before .before .before .args .out .now) _ (sym (c .before .before .before .before .before .before .before .before .last .given .1) ∙ c .before .before .before .before .before .before .before .before .before .before .find-task .ensures) _ (c .before .before .before .before .run-upto .ensures)
+returns-3 c =
+    let at-run-upto = c .before .before .before .before in
+    let at-last = at-run-upto .before .before .before .before in
+    let at-find-task = at-last .before .before in
+    let entry = at-find-task .before .before .before .before .before .before in
+    run-upto (worldFrom (entry .args .source) (entry .args .session) (entry .args .own .now) (entry .args .facing .now) (entry .args .probe .now)) (entry .args .source) (entry .args .part) (entry .args .out .now) _ (sym (at-last .last .given .1) ∙ at-find-task .find-task .ensures) _ (at-run-upto .run-upto .ensures)
 
 pub run-portion-spec : {M : Type 1} → statement M
 run-portion-spec =
     tie.close
     (tie.spec
-    find-task-requires
-    enum-told
-    enum-told-2
-    enum-known-last
+    (λ c κs. search needs)
+    (λ c. search needs)
+    (λ c. search needs)
+    (λ c. search needs)
     run-upto-requires
-    same-length
+    (λ c. search needs)
     returns
-    same-length-2
+    (λ c. search needs)
     returns-2
-    same-length-3
-    same-length-4
+    (λ c. search needs)
+    (λ c. search needs)
     returns-3)

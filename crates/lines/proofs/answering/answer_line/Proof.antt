@@ -7,10 +7,14 @@ use Rattle.lines.proofs.answering.answer_line.Statement.{statement}
 use Rattle.lines.proofs.answering.answer_line.Tie as tie
 
 put-reply-requires : tie.Need-put-reply-requires
-put-reply-requires c κs = (omega (arith, c .before .before .before .before .before .before .before .before .before .respond .ensures .1), omega (arith, c .before .before .before .before .before .before .before .before .before .respond .ensures .1))
+put-reply-requires c κs =
+    let at-respond = c .before .before .before .before .before .before .before .before .before in
+    (omega (arith, at-respond .respond .ensures .1), omega (arith, at-respond .respond .ensures .1))
 
 returns : tie.Need-returns
-returns c = says-turn _ _ _ _ _ _ _ _ _ _ _ _ _ _ (c .before .before .before .before .before .before .before .before .before .before .before .respond .ensures .0) (c .before .put-reply .ensures .0) (omega (arith, c .before .put-reply .ensures .1, c .before .before .before .before .before .before .before .before .before .before .before .respond .ensures .1))
+returns c =
+    let at-respond = c .before .before .before .before .before .before .before .before .before .before .before in
+    says-turn _ _ _ _ _ _ _ _ _ _ _ _ _ _ (at-respond .respond .ensures .0) (c .before .put-reply .ensures .0) (omega (arith, c .before .put-reply .ensures .1, at-respond .respond .ensures .1))
 
 pub answer-line-spec : {M : Type 1} → statement M
 answer-line-spec =

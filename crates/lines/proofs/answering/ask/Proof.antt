@@ -9,11 +9,17 @@ use Rattle.lines.proofs.answering.ask.Tie as tie
 
 returns : tie.Need-returns
 unfolding asks
-returns c = rw (not-true (c .before .before .before .before .before .args .state .started) (c .if1 .taken))
+returns c =
+    let entry = c .before .before .before .before .before in
+    rw (not-true (entry .args .state .started) (c .if1 .taken))
 
 returns-2 : tie.Need-returns-2
 unfolding asks
-returns-2 c = rw (not-false (c .before .before .before .before .before .before .before .before .before .before .before .before .before .before .before .before .before .before .before .before .args .state .started) (c .before .before .before .before .before .before .before .before .before .before .before .before .before .before .before .if1 .left), c .go-on .ensures) (ap went (c .before .before .before .before .before .before .before .before .before .perform .ensures))
+returns-2 c =
+    let at-perform = c .before .before .before .before .before .before .before .before .before in
+    let at-if1 = at-perform .before .before .before .before .before .before in
+    let entry = at-if1 .before .before .before .before .before in
+    rw (not-false (entry .args .state .started) (at-if1 .if1 .left), c .go-on .ensures) (ap went (at-perform .perform .ensures))
 
 pub ask-spec : {M : Type 1} → statement M
 ask-spec =

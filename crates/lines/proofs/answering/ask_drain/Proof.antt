@@ -14,14 +14,20 @@ use Rattle.lines.proofs.answering.ask_drain.Tie as tie
 
 returns : tie.Need-returns
 unfolding asks
-returns c = rw (not-true (c .before .before .before .before .before .args .state .started) (c .if1 .taken))
+returns c =
+    let entry = c .before .before .before .before .before in
+    rw (not-true (entry .args .state .started) (c .if1 .taken))
 
 slice-aggregate-drain : tie.Need-slice-aggregate-drain
 slice-aggregate-drain c = sym (length-take-le _ _ (omega (arith, c .before .pairs-need .ensures)))
 
 returns-2 : tie.Need-returns-2
 unfolding asks drainsIn
-returns-2 c = rw (not-false (c .before .before .before .before .before .before .before .before .before .before .before .before .args .state .started) (c .before .before .before .before .before .before .before .if1 .left), c .go-on .ensures, ← c .before .before .before .before .before .pairs-need .ensures) (ap (λ (x : After). went (after (x .answer) (x .world) (x .out ++ drop (c .before .before .before .before .before .pairs-need .result) (c .before .before .before .before .before .before .before .before .before .before .before .before .args .out .now)))) (c .before .before .before .drain .ensures))
+returns-2 c =
+    let at-pairs-need = c .before .before .before .before .before in
+    let at-if1 = at-pairs-need .before .before in
+    let entry = at-if1 .before .before .before .before .before in
+    rw (not-false (entry .args .state .started) (at-if1 .if1 .left), c .go-on .ensures, ← at-pairs-need .pairs-need .ensures) (ap (λ (x : After). went (after (x .answer) (x .world) (x .out ++ drop (at-pairs-need .pairs-need .result) (entry .args .out .now)))) (c .before .before .before .drain .ensures))
 
 pub ask-drain-spec : {M : Type 1} → statement M
 ask-drain-spec =

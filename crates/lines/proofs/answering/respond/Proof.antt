@@ -11,16 +11,31 @@ use Rattle.lines.proofs.answering.respond.Statement.{statement}
 use Rattle.lines.proofs.answering.respond.Tie as tie
 
 ask-drain-requires : tie.Need-ask-drain-requires
-ask-drain-requires c κs = let h : c .before .before .before .before .before .room .given .0 .0 ≤ 512 = subst RoomFits (sym (c .before .before .before .before .before .before .before .read-line .ensures) ∙ c .before .before .before .before .before .room .given .1) (room-fits _) in omega (arith, h)
+ask-drain-requires c κs =
+    let at-room = c .before .before .before .before .before in
+    let at-read-line = at-room .before .before in
+    let h : at-room .room .given .0 .0 ≤ 512 = subst RoomFits (sym (at-read-line .read-line .ensures) ∙ at-room .room .given .1) (room-fits _) in omega (arith, h)
 
 returns : tie.Need-returns
-returns c = (rw (← c .before .before .before .before .before .before .before .before .read-line .ensures, c .before .before .before .before .before .before .parts .given .1, c .begin .ensures, c .before .«open» .ensures), begun-fits _ _ _ _ _ _ _ _ (rw (c .before .«open» .ensures) at (c .begin .ensures)))
+returns c =
+    let at-parts = c .before .before .before .before .before .before in
+    let at-read-line = at-parts .before .before in
+    (rw (← at-read-line .read-line .ensures, at-parts .parts .given .1, c .begin .ensures, c .before .«open» .ensures), begun-fits _ _ _ _ _ _ _ _ (rw (c .before .«open» .ensures) at (c .begin .ensures)))
 
 returns-2 : tie.Need-returns-2
-returns-2 c = (rw (← c .before .before .before .before .before .before .before .before .before .before .before .before .before .before .read-line .ensures, c .before .before .before .before .before .before .before .before .before .before .before .before .call .given .1) (c .before .before .before .before .before .before .ask .ensures), asked-fits _ _ _ _ (c .before .before .before .before .before .before .before .before .before .before .before .before .before .before .before .before .before .before .before .args .out .now) _ _ _ _ _ _ (c .before .before .before .before .before .before .ask .ensures) (pairs-fit _ _ _) (omega arith))
+returns-2 c =
+    let at-ask = c .before .before .before .before .before .before in
+    let at-call = at-ask .before .before .before .before .before .before in
+    let at-read-line = at-call .before .before in
+    let entry = at-read-line .before .before .before .before .before in
+    (rw (← at-read-line .read-line .ensures, at-call .call .given .1) (at-ask .ask .ensures), asked-fits _ _ _ _ (entry .args .out .now) _ _ _ _ _ _ (at-ask .ask .ensures) (pairs-fit _ _ _) (omega arith))
 
 returns-3 : tie.Need-returns-3
-returns-3 c = (rw (← c .before .before .before .before .before .before .before .before .read-line .ensures, c .before .before .before .before .before .before .room .given .1) (c .ask-drain .ensures), asked-fits _ _ _ _ (c .before .before .before .before .before .before .before .before .before .before .before .before .before .args .out .now) _ _ _ _ _ _ (c .ask-drain .ensures) (drains-fits _ _ _) (omega arith))
+returns-3 c =
+    let at-room = c .before .before .before .before .before .before in
+    let at-read-line = at-room .before .before in
+    let entry = at-read-line .before .before .before .before .before in
+    (rw (← at-read-line .read-line .ensures, at-room .room .given .1) (c .ask-drain .ensures), asked-fits _ _ _ _ (entry .args .out .now) _ _ _ _ _ _ (c .ask-drain .ensures) (drains-fits _ _ _) (omega arith))
 
 returns-4 : tie.Need-returns-4
 returns-4 c = (rw (← c .before .before .read-line .ensures, c .enum-told .given .1), omega arith)

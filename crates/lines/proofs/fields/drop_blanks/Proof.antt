@@ -22,19 +22,27 @@ loop-holds : tie.Need-loop-holds Inv-loop μ-loop
 loop-holds c = (search needs, ap endCut (take-length _))
 
 slice-aggregate-result : tie.Need-slice-aggregate-result Inv-loop μ-loop
-slice-aggregate-result c = sym (length-take-le _ _ (c .before .before .before .before .before .loop .inv .0))
+slice-aggregate-result c =
+    let at-loop = c .before .before .before .before .before in
+    sym (length-take-le _ _ (at-loop .loop .inv .0))
 
 returns : tie.Need-returns Inv-loop μ-loop
-returns c = sym (end-other _ _ (omega arith) (c .before .before .before .before .before .loop .inv .0) (told-not (c .before .before .is-blank .ensures) (c .before .if1 .taken))) ∙ c .before .before .before .before .before .loop .inv .1
+returns c =
+    let at-loop = c .before .before .before .before .before in
+    sym (end-other _ _ (omega arith) (at-loop .loop .inv .0) (told-not (c .before .before .is-blank .ensures) (c .before .if1 .taken))) ∙ at-loop .loop .inv .1
 
 loop-again : tie.Need-loop-again Inv-loop μ-loop
-loop-again c = (search needs, end-blank _ _ (omega arith) (c .before .before .before .before .loop .inv .0) (told-yes (c .before .is-blank .ensures) (c .if1 .left)) ∙ c .before .before .before .before .loop .inv .1)
+loop-again c =
+    let at-loop = c .before .before .before .before in
+    (search needs, end-blank _ _ (omega arith) (at-loop .loop .inv .0) (told-yes (c .before .is-blank .ensures) (c .if1 .left)) ∙ at-loop .loop .inv .1)
 
 slice-aggregate-result-2 : tie.Need-slice-aggregate-result-2 Inv-loop μ-loop
 slice-aggregate-result-2 c = sym (length-take-le _ _ (c .before .before .loop .inv .0))
 
 returns-2 : tie.Need-returns-2 Inv-loop μ-loop
-returns-2 c = sym (end-none _ (c .before .before .loop .end) (omega arith)) ∙ c .before .before .loop .inv .1
+returns-2 c =
+    let at-loop = c .before .before in
+    sym (end-none _ (at-loop .loop .end) (omega arith)) ∙ at-loop .loop .inv .1
 
 pub drop-blanks-spec : {M : Type 1} → statement M
 drop-blanks-spec =

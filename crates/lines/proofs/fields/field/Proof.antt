@@ -8,7 +8,9 @@ use Rattle.lines.proofs.fields.field.Tie as tie
 
 returns : tie.Need-returns
 unfolding trim
-returns c = rw (field-is, c .drop-blanks .ensures, c .before .skip-blanks .ensures, c .before .before .until-comma .ensures, to-end, c .before .before .before .before .start-of .ensures .0)
+returns c =
+    let at-start-of = c .before .before .before .before in
+    rw (field-is, c .drop-blanks .ensures, c .before .skip-blanks .ensures, c .before .before .until-comma .ensures, to-end, at-start-of .start-of .ensures .0)
 
 pub field-spec : {M : Type 1} → statement M
 field-spec =

@@ -20,10 +20,15 @@ loop-holds : tie.Need-loop-holds Inv-loop μ-loop
 loop-holds c = (search needs, refl)
 
 returns : tie.Need-returns Inv-loop μ-loop
-returns c = rw to-end (sym (front-other _ _ (c .before .before .before .before .loop-test .taken) (told-not (c .before .before .is-blank .ensures) (c .before .if1 .taken))) ∙ c .before .before .before .before .before .loop .inv .1)
+returns c =
+    let at-loop-test = c .before .before .before .before in
+    let at-loop = at-loop-test .before in
+    rw to-end (sym (front-other _ _ (at-loop-test .loop-test .taken) (told-not (c .before .before .is-blank .ensures) (c .before .if1 .taken))) ∙ at-loop .loop .inv .1)
 
 loop-again : tie.Need-loop-again Inv-loop μ-loop
-loop-again c = (search needs, front-blank _ _ (c .before .before .before .loop-test .taken) (told-yes (c .before .is-blank .ensures) (c .if1 .left)) ∙ c .before .before .before .before .loop .inv .1)
+loop-again c =
+    let at-loop = c .before .before .before .before in
+    (search needs, front-blank _ _ (c .before .before .before .loop-test .taken) (told-yes (c .before .is-blank .ensures) (c .if1 .left)) ∙ at-loop .loop .inv .1)
 
 returns-2 : tie.Need-returns-2 Inv-loop μ-loop
 returns-2 c = rw to-end (sym (front-none _ _ (c .before .loop-test .left)) ∙ c .before .before .loop .inv .1)

@@ -22,10 +22,14 @@ returns : tie.Need-returns Inv-loop μ-loop
 returns c = (rw (c .if1 .taken) at (c .before .before .loop .inv .1), search needs)
 
 loop-again : tie.Need-loop-again Inv-loop μ-loop
-loop-again c = (search needs, past-comma _ _ (c .before .before .before .loop-test .taken) _ (c .before .before .if1 .left) (c .if2 .taken) ∙ c .before .before .before .before .loop .inv .1)
+loop-again c =
+    let at-loop = c .before .before .before .before in
+    (search needs, past-comma _ _ (c .before .before .before .loop-test .taken) _ (c .before .before .if1 .left) (c .if2 .taken) ∙ at-loop .loop .inv .1)
 
 loop-again-2 : tie.Need-loop-again-2 Inv-loop μ-loop
-loop-again-2 c = (search needs, past-other _ _ (c .before .before .before .loop-test .taken) _ (c .before .before .if1 .left) (c .if2 .left) ∙ c .before .before .before .before .loop .inv .1)
+loop-again-2 c =
+    let at-loop = c .before .before .before .before in
+    (search needs, past-other _ _ (c .before .before .before .loop-test .taken) _ (c .before .before .if1 .left) (c .if2 .left) ∙ at-loop .loop .inv .1)
 
 returns-2 : tie.Need-returns-2 Inv-loop μ-loop
 returns-2 c = (past-end _ _ (c .loop-test .left) _ ∙ c .before .loop .inv .1, search needs)

@@ -21,10 +21,14 @@ loop-holds : tie.Need-loop-holds Inv-loop μ-loop
 loop-holds c = (search needs, refl)
 
 slice-aggregate-result : tie.Need-slice-aggregate-result Inv-loop μ-loop
-slice-aggregate-result c = sym (length-take-le _ _ (c .before .before .before .before .loop .inv .0))
+slice-aggregate-result c =
+    let at-loop = c .before .before .before .before in
+    sym (length-take-le _ _ (at-loop .loop .inv .0))
 
 returns : tie.Need-returns Inv-loop μ-loop
-returns c = sym (until-comma _ _ (c .before .before .before .loop-test .taken) (c .before .if1 .taken)) ∙ c .before .before .before .before .loop .inv .1
+returns c =
+    let at-loop = c .before .before .before .before in
+    sym (until-comma _ _ (c .before .before .before .loop-test .taken) (c .before .if1 .taken)) ∙ at-loop .loop .inv .1
 
 loop-again : tie.Need-loop-again Inv-loop μ-loop
 loop-again c = (search needs, sym (until-more _ _ (c .before .before .loop-test .taken) (c .if1 .left)) ∙ c .before .before .before .loop .inv .1)

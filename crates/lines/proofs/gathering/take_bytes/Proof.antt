@@ -20,7 +20,10 @@ returns : tie.Need-returns Inv-loop μ-loop
 returns c = taking-line _ _ _ _ _ _ _ (c .before .before .before .loop .inv) (c .before .before .loop-test .taken) (c .if1 .taken)
 
 loop-again : tie.Need-loop-again Inv-loop μ-loop
-loop-again c = rw (c .keep .ensures .0, c .keep .ensures .1) (taking-byte _ _ _ _ _ _ _ (c .before .before .before .before .before .loop .inv) (c .before .before .before .before .loop-test .taken) (c .before .before .if1 .left))
+loop-again c =
+    let at-loop-test = c .before .before .before .before in
+    let at-loop = at-loop-test .before in
+    rw (c .keep .ensures .0, c .keep .ensures .1) (taking-byte _ _ _ _ _ _ _ (at-loop .loop .inv) (at-loop-test .loop-test .taken) (c .before .before .if1 .left))
 
 returns-2 : tie.Need-returns-2 Inv-loop μ-loop
 returns-2 c = taking-all _ _ _ _ _ _ _ (c .before .loop .inv) (c .loop-test .left)

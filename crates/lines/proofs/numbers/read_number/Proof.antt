@@ -24,7 +24,9 @@ returns c = rw (lt-leb _ _ (c .if1 .taken))
 
 returns-2 : tie.Need-returns-2 Inv-loop μ-loop
 unfolding numberOf
-returns-2 c = let a : 1 ≤ length (now (c .before .before .before .args .text)) = omega arith in let b : 4 < length (now (c .before .before .before .args .text)) = omega arith in
+returns-2 c =
+    let entry = c .before .before .before in
+    let a : 1 ≤ length (now (entry .args .text)) = omega arith in let b : 4 < length (now (entry .args .text)) = omega arith in
     rw (le-leb _ _ a, lt-leb _ _ b)
 
 loop-holds : tie.Need-loop-holds Inv-loop μ-loop
@@ -32,27 +34,45 @@ loop-holds c = (search needs, read-first _)
 
 returns-3 : tie.Need-returns-3 Inv-loop μ-loop
 unfolding numberOf
-returns-3 c = let a : 1 ≤ length (now (c .before .before .before .before .before .before .before .before .args .text)) = omega arith in let b : length (now (c .before .before .before .before .before .before .before .before .args .text)) ≤ 4 = omega arith in
-    rw (le-leb _ _ a, le-leb _ _ b, read-other _ _ _ (c .before .before .before .before .loop .inv .1) (c .before .before .before .loop-test .taken) (told-not (c .before .is-digit .ensures) (c .if3 .taken)))
+returns-3 c =
+    let at-loop = c .before .before .before .before in
+    let entry = at-loop .before .before .before .before in
+    let a : 1 ≤ length (now (entry .args .text)) = omega arith in let b : length (now (entry .args .text)) ≤ 4 = omega arith in
+    rw (le-leb _ _ a, le-leb _ _ b, read-other _ _ _ (at-loop .loop .inv .1) (c .before .before .before .loop-test .taken) (told-not (c .before .is-digit .ensures) (c .if3 .taken)))
 
 mul-value : tie.Need-mul-value Inv-loop μ-loop
-mul-value c = omega (arith, read-room _ _ _ (c .before .before .before .before .loop .inv .1) (omega arith))
+mul-value c =
+    let at-loop = c .before .before .before .before in
+    omega (arith, read-room _ _ _ (at-loop .loop .inv .1) (omega arith))
 
 sub-value : tie.Need-sub-value Inv-loop μ-loop
-sub-value c = omega (arith, digit-range (getD (now (c .before .before .before .before .before .before .before .before .args .text)) (c .before .before .before .before .loop .i) 0) (told-yes (c .before .is-digit .ensures) (c .if3 .left)) .0)
+sub-value c =
+    let at-loop = c .before .before .before .before in
+    let entry = at-loop .before .before .before .before in
+    omega (arith, digit-range (getD (now (entry .args .text)) (at-loop .loop .i) 0) (told-yes (c .before .is-digit .ensures) (c .if3 .left)) .0)
 
 cast-value : tie.Need-cast-value Inv-loop μ-loop
-cast-value c = omega (arith, digit-range (getD (now (c .before .before .before .before .before .before .before .before .args .text)) (c .before .before .before .before .loop .i) 0) (told-yes (c .before .is-digit .ensures) (c .if3 .left)) .1)
+cast-value c =
+    let at-loop = c .before .before .before .before in
+    let entry = at-loop .before .before .before .before in
+    omega (arith, digit-range (getD (now (entry .args .text)) (at-loop .loop .i) 0) (told-yes (c .before .is-digit .ensures) (c .if3 .left)) .1)
 
 add-value : tie.Need-add-value Inv-loop μ-loop
-add-value c = omega (arith, read-room _ _ _ (c .before .before .before .before .loop .inv .1) (omega arith), digit-range (getD (now (c .before .before .before .before .before .before .before .before .args .text)) (c .before .before .before .before .loop .i) 0) (told-yes (c .before .is-digit .ensures) (c .if3 .left)) .1)
+add-value c =
+    let at-loop = c .before .before .before .before in
+    let entry = at-loop .before .before .before .before in
+    omega (arith, read-room _ _ _ (at-loop .loop .inv .1) (omega arith), digit-range (getD (now (entry .args .text)) (at-loop .loop .i) 0) (told-yes (c .before .is-digit .ensures) (c .if3 .left)) .1)
 
 loop-again : tie.Need-loop-again Inv-loop μ-loop
-loop-again c = (search needs, read-digit _ _ _ (c .before .before .before .before .loop .inv .1) (c .before .before .before .loop-test .taken) (told-yes (c .before .is-digit .ensures) (c .if3 .left)))
+loop-again c =
+    let at-loop = c .before .before .before .before in
+    (search needs, read-digit _ _ _ (at-loop .loop .inv .1) (c .before .before .before .loop-test .taken) (told-yes (c .before .is-digit .ensures) (c .if3 .left)))
 
 returns-4 : tie.Need-returns-4 Inv-loop μ-loop
 unfolding numberOf
-returns-4 c = let a : 1 ≤ length (now (c .before .before .before .before .before .args .text)) = omega arith in let b : length (now (c .before .before .before .before .before .args .text)) ≤ 4 = omega arith in
+returns-4 c =
+    let entry = c .before .before .before .before .before in
+    let a : 1 ≤ length (now (entry .args .text)) = omega arith in let b : length (now (entry .args .text)) ≤ 4 = omega arith in
     rw (le-leb _ _ a, le-leb _ _ b, read-all _ _ _ (c .before .loop .inv .1) (c .loop-test .left))
 
 pub read-number-spec : {M : Type 1} → statement M

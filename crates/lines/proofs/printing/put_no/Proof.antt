@@ -8,11 +8,21 @@ use Rattle.lines.proofs.printing.put_no.Tie as tie
 
 returns : tie.Need-returns
 unfolding noText
-returns c = (rw (← c .before .before .before .before .before .before .before .before .need-of .ensures, c .before .before .before .before .before .before .n .given .1, ← c .before .before .before .before .before .before .before .before .before .before .before .before .code-of .ensures) (put-then (c .before .before .before .before .before .before .before .before .before .before .before .put-worded .ensures .0) (c .before .before .put-said .ensures .0)), search needs)
+returns c =
+    let at-n = c .before .before .before .before .before .before in
+    let at-need-of = at-n .before .before in
+    let at-put-worded = at-need-of .before .before .before in
+    let at-code-of = at-put-worded .before in
+    (rw (← at-need-of .need-of .ensures, at-n .n .given .1, ← at-code-of .code-of .ensures) (put-then (at-put-worded .put-worded .ensures .0) (c .before .before .put-said .ensures .0)), search needs)
 
 returns-2 : tie.Need-returns-2
 unfolding noText
-returns-2 c = (rw (← c .before .before .before .before .before .before .before .need-of .ensures, c .before .before .before .before .before .enum-told .given .1, ← c .before .before .before .before .before .before .before .before .before .before .before .code-of .ensures) (put-then (c .before .before .before .before .before .before .before .before .before .before .put-worded .ensures .0) (c .before .before .put-text .ensures)), search needs)
+returns-2 c =
+    let at-enum-told = c .before .before .before .before .before in
+    let at-need-of = at-enum-told .before .before in
+    let at-put-worded = at-need-of .before .before .before in
+    let at-code-of = at-put-worded .before in
+    (rw (← at-need-of .need-of .ensures, at-enum-told .enum-told .given .1, ← at-code-of .code-of .ensures) (put-then (at-put-worded .put-worded .ensures .0) (c .before .before .put-text .ensures)), search needs)
 
 pub put-no-spec : {M : Type 1} → statement M
 put-no-spec =

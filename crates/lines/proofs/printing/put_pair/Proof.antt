@@ -8,7 +8,10 @@ use Rattle.lines.proofs.printing.put_pair.Tie as tie
 
 returns : tie.Need-returns
 unfolding pairText
-returns c = (put-then (put-then (c .before .before .before .before .before .before .before .before .before .before .before .before .put-worded .ensures .0) (c .before .before .before .before .before .before .before .put-worded2 .ensures .0)) (c .before .before .put-said .ensures .0), search needs)
+returns c =
+    let at-put-worded2 = c .before .before .before .before .before .before .before in
+    let at-put-worded = at-put-worded2 .before .before .before .before .before in
+    (put-then (put-then (at-put-worded .put-worded .ensures .0) (at-put-worded2 .put-worded2 .ensures .0)) (c .before .before .put-said .ensures .0), search needs)
 
 pub put-pair-spec : {M : Type 1} → statement M
 put-pair-spec =

@@ -17,13 +17,19 @@ abbrev μ-loop : tie.MeasureT-loop
 μ-loop buf₀ at out n next₀ i₀ buf next i = n - i
 
 loop-holds : tie.Need-loop-holds Inv-loop μ-loop
-loop-holds c = let q : c .before .before .args .n - 0 ≡ c .before .before .args .n = omega arith in (search needs, search needs, rw q (midway-first _ _ _))
+loop-holds c =
+    let entry = c .before .before in
+    let q : entry .args .n - 0 ≡ entry .args .n = omega arith in (search needs, search needs, rw q (midway-first _ _ _))
 
 put-pair-requires : tie.Need-put-pair-requires Inv-loop μ-loop
 put-pair-requires c κs = omega (arith, c .before .before .before .loop .inv .2 .long)
 
 loop-again : tie.Need-loop-again Inv-loop μ-loop
-loop-again c = (search needs, omega (arith, c .before .before .put-pair .ensures .1), midway-put (pairs-left _ _ _ (c .before .before .before .before .before .loop-test .taken)) (c .before .before .before .before .before .before .loop .inv .2) (put-is (ap pairText (c .before .before .before .pair-at .ensures)) (c .before .before .put-pair .ensures .0)))
+loop-again c =
+    let at-put-pair = c .before .before in
+    let at-loop-test = at-put-pair .before .before .before in
+    let at-loop = at-loop-test .before in
+    (search needs, omega (arith, at-put-pair .put-pair .ensures .1), midway-put (pairs-left _ _ _ (at-loop-test .loop-test .taken)) (at-loop .loop .inv .2) (put-is (ap pairText (c .before .before .before .pair-at .ensures)) (at-put-pair .put-pair .ensures .0)))
 
 same-length : tie.Need-same-length Inv-loop μ-loop
 same-length c = c .before .loop .inv .2 .long

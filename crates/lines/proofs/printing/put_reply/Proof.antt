@@ -8,7 +8,10 @@ use Rattle.lines.proofs.printing.put_reply.Tie as tie
 
 returns : tie.Need-returns
 unfolding replyText
-returns c = (rw (← c .before .before .before .before .before .before .before .before .pairs-of .ensures) (put-then (c .before .before .before .before .before .before .put-pairs .ensures .0) (c .before .before .put-answer .ensures .0)), search needs)
+returns c =
+    let at-put-pairs = c .before .before .before .before .before .before in
+    let at-pairs-of = at-put-pairs .before .before in
+    (rw (← at-pairs-of .pairs-of .ensures) (put-then (at-put-pairs .put-pairs .ensures .0) (c .before .before .put-answer .ensures .0)), search needs)
 
 pub put-reply-spec : {M : Type 1} → statement M
 put-reply-spec =

@@ -8,7 +8,9 @@ use Rattle.lines.proofs.printing.put_said.Tie as tie
 
 returns : tie.Need-returns
 unfolding said
-returns c = (put-then (c .before .before .before .before .before .before .before .put-worded .ensures .0) (c .before .before .put-text .ensures), search needs)
+returns c =
+    let at-put-worded = c .before .before .before .before .before .before .before in
+    (put-then (at-put-worded .put-worded .ensures .0) (c .before .before .put-text .ensures), search needs)
 
 pub put-said-spec : {M : Type 1} → statement M
 put-said-spec =

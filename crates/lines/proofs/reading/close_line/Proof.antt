@@ -12,11 +12,16 @@ returns c = rw (told-ne (c .before .count .ensures) (c .if1 .taken))
 
 returns-2 : tie.Need-returns-2
 unfolding closeLine
-returns-2 c = rw (told-eq (c .before .before .before .before .count .ensures) (c .before .before .before .if1 .left), ← c .before .before .side-at .ensures, c .enum-told .given .1)
+returns-2 c =
+    let at-count = c .before .before .before .before in
+    rw (told-eq (at-count .count .ensures) (c .before .before .before .if1 .left), ← c .before .before .side-at .ensures, c .enum-told .given .1)
 
 returns-3 : tie.Need-returns-3
 unfolding closeLine
-returns-3 c = rw (told-eq (c .before .before .before .before .before .count .ensures) (c .before .before .before .before .if1 .left), ← c .before .before .before .side-at .ensures, c .before .source .given .1)
+returns-3 c =
+    let at-if1 = c .before .before .before .before in
+    let at-count = at-if1 .before in
+    rw (told-eq (at-count .count .ensures) (at-if1 .if1 .left), ← c .before .before .before .side-at .ensures, c .before .source .given .1)
 
 pub close-line-spec : {M : Type 1} → statement M
 close-line-spec =

@@ -8,7 +8,10 @@ use Rattle.lines.proofs.serving.answer_held.Statement.{statement}
 use Rattle.lines.proofs.serving.answer_held.Tie as tie
 
 returns : tie.Need-returns
-returns c = rw (take-all (c .before .before .before .before .before .before .before .before .before .before .before .before .before .before .before .before .before .args .have) (c .before .before .before .before .before .before .before .before .before .before .before .before .before .before .before .before .before .args .line .now) (omega arith)) (c .before .before .before .before .before .before .answer-line .ensures)
+returns c =
+    let at-answer-line = c .before .before .before .before .before .before in
+    let entry = at-answer-line .before .before .before .before .before .before .before .before .before .before .before in
+    rw (take-all (entry .args .have) (entry .args .line .now) (omega arith)) (at-answer-line .answer-line .ensures)
 
 slice-aggregate-answer-line : tie.Need-slice-aggregate-answer-line
 slice-aggregate-answer-line c = sym (length-take-le _ _ (omega arith))

@@ -10,7 +10,10 @@ returns : tie.Need-returns
 returns c = rw (eq-eqb _ _ (c .if1 .taken)) (says-nothing _ _ _ _ _ _)
 
 returns-2 : tie.Need-returns-2
-returns-2 c = rw (ne-eqb _ _ (c .before .before .before .before .before .before .before .before .before .before .before .before .if1 .left)) (c .before .before .before .before .before .before .answer-held .ensures)
+returns-2 c =
+    let at-answer-held = c .before .before .before .before .before .before in
+    let at-if1 = at-answer-held .before .before .before .before .before .before in
+    rw (ne-eqb _ _ (at-if1 .if1 .left)) (at-answer-held .answer-held .ensures)
 
 pub finish-spec : {M : Type 1} → statement M
 finish-spec =

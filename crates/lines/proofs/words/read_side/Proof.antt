@@ -12,11 +12,15 @@ returns c = rw (told (c .before .is-same .ensures) (c .if1 .taken))
 
 returns-2 : tie.Need-returns-2
 unfolding sideOf
-returns-2 c = rw (told (c .before .before .before .before .is-same .ensures) (c .before .before .before .if1 .left), told (c .before .is-same2 .ensures) (c .if2 .taken))
+returns-2 c =
+    let at-is-same = c .before .before .before .before in
+    rw (told (at-is-same .is-same .ensures) (c .before .before .before .if1 .left), told (c .before .is-same2 .ensures) (c .if2 .taken))
 
 returns-3 : tie.Need-returns-3
 unfolding sideOf
-returns-3 c = rw (told (c .before .before .before .before .is-same .ensures) (c .before .before .before .if1 .left), told (c .before .is-same2 .ensures) (c .if2 .left))
+returns-3 c =
+    let at-is-same = c .before .before .before .before in
+    rw (told (at-is-same .is-same .ensures) (c .before .before .before .if1 .left), told (c .before .is-same2 .ensures) (c .if2 .left))
 
 pub read-side-spec : {M : Type 1} → statement M
 read-side-spec =

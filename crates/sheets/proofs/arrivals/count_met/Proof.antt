@@ -19,23 +19,8 @@ abbrev μ-loop : tie.MeasureT-loop
 loop-holds : tie.Need-loop-holds Inv-loop μ-loop
 loop-holds c = (search needs, counted-first _)
 
-add-i : tie.Need-add-i Inv-loop μ-loop
-add-i c = search needs
-
-is-met-requires : tie.Need-is-met-requires Inv-loop μ-loop
-is-met-requires c κs = search needs
-
-add-count : tie.Need-add-count Inv-loop μ-loop
-add-count c = search needs
-
-loop-less : tie.Need-loop-less Inv-loop μ-loop
-loop-less c = search needs
-
 loop-again : tie.Need-loop-again Inv-loop μ-loop
 loop-again c = (omega arith, counted-one _ _ _ (c .before .before .before .loop .inv .1) (sym (c .before .is-met .ensures) ∙ c .if1 .taken))
-
-loop-less-2 : tie.Need-loop-less-2 Inv-loop μ-loop
-loop-less-2 c = search needs
 
 loop-again-2 : tie.Need-loop-again-2 Inv-loop μ-loop
 loop-again-2 c = (omega arith, counted-none _ _ _ (c .before .before .before .loop .inv .1) (sym (c .before .is-met .ensures) ∙ c .if1 .left))
@@ -50,11 +35,11 @@ count-met-spec =
     Inv-loop
     μ-loop
     loop-holds
-    add-i
-    is-met-requires
-    add-count
-    loop-less
+    (λ c. search needs)
+    (λ c κs. search needs)
+    (λ c. search needs)
+    (λ c. search needs)
     loop-again
-    loop-less-2
+    (λ c. search needs)
     loop-again-2
     returns)

@@ -7,17 +7,15 @@ use Rattle.sheets.specs.Layout.{rowAt}
 use Rattle.sheets.proofs.arrivals.count_met_after.Statement.{statement}
 use Rattle.sheets.proofs.arrivals.count_met_after.Tie as tie
 
-part-of-requires : tie.Need-part-of-requires
-part-of-requires c κs = search needs
-
 returns : tie.Need-returns
-returns c = gone-none _ _ _ (rowAt (c .before .before .before .args .sheet .now)) (c .before .before .before .args .rows) (sym (c .before .part-of .ensures .0) ∙ c .if1 .taken)
-
-count-met-requires : tie.Need-count-met-requires
-count-met-requires c κs = search needs
+returns c =
+    let entry = c .before .before .before in
+    gone-none _ _ _ (rowAt (entry .args .sheet .now)) (entry .args .rows) (sym (c .before .part-of .ensures .0) ∙ c .if1 .taken)
 
 returns-2 : tie.Need-returns-2
-returns-2 c = kept-count _ _ _ (rowAt (c .before .before .before .before .args .sheet .now)) (c .before .before .before .before .args .rows) _ (λ e. c .before .if1 .left (c .before .before .part-of .ensures .0 ∙ e)) (c .count-met .ensures)
+returns-2 c =
+    let entry = c .before .before .before .before in
+    kept-count _ _ _ (rowAt (entry .args .sheet .now)) (entry .args .rows) _ (λ e. c .before .if1 .left (c .before .before .part-of .ensures .0 ∙ e)) (c .count-met .ensures)
 
 pub count-met-after-spec : {M : Type 1} → statement M
-count-met-after-spec = tie.close (tie.spec part-of-requires returns count-met-requires returns-2)
+count-met-after-spec = tie.close (tie.spec (λ c κs. search needs) returns (λ c κs. search needs) returns-2)

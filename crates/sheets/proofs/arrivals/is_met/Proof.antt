@@ -4,15 +4,6 @@ use borrow.Author.Needs.{needs}
 use Rattle.sheets.proofs.arrivals.is_met.Statement.{statement}
 use Rattle.sheets.proofs.arrivals.is_met.Tie as tie
 
-item-at-requires : tie.Need-item-at-requires
-item-at-requires c κs = search needs
-
-items-match-requires : tie.Need-items-match-requires
-items-match-requires c κs = search needs
-
-dts-at-requires : tie.Need-dts-at-requires
-dts-at-requires c κs = search needs
-
 returns : tie.Need-returns
 returns c = rw (← c .before .before .before .item-at .ensures, ← c .before .before .items-match .ensures, c .before .if1 .taken, c .dts-at .ensures)
 
@@ -21,4 +12,4 @@ returns-2 c = rw (← c .before .before .item-at .ensures, ← c .before .items-
 
 pub is-met-spec : {M : Type 1} → statement M
 is-met-spec =
-    tie.close (tie.spec item-at-requires items-match-requires dts-at-requires returns returns-2)
+    tie.close (tie.spec (λ c κs. search needs) (λ c κs. search needs) (λ c κs. search needs) returns returns-2)

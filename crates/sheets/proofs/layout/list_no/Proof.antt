@@ -5,18 +5,6 @@ use native.Mathlib.Omega.{arith}
 use Rattle.sheets.proofs.layout.list_no.Statement.{statement}
 use Rattle.sheets.proofs.layout.list_no.Tie as tie
 
-enum-told : tie.Need-enum-told
-enum-told c = search needs
-
-enum-told-2 : tie.Need-enum-told-2
-enum-told-2 c = search needs
-
-add-result : tie.Need-add-result
-add-result c = search needs
-
-cast-result : tie.Need-cast-result
-cast-result c = search needs
-
 returns : tie.Need-returns
 returns c = (rw (c .enum-told .given .1), search needs)
 
@@ -24,4 +12,4 @@ returns-2 : tie.Need-returns-2
 returns-2 c = (rw (c .enum-told2 .given .1), omega arith)
 
 pub list-no-spec : {M : Type 1} → statement M
-list-no-spec = tie.close (tie.spec enum-told enum-told-2 add-result cast-result returns returns-2)
+list-no-spec = tie.close (tie.spec (λ c. search needs) (λ c. search needs) (λ c. search needs) (λ c. search needs) returns returns-2)

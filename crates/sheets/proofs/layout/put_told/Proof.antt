@@ -4,39 +4,25 @@ use borrow.Author.Needs.{needs}
 use Rattle.sheets.proofs.layout.put_told.Statement.{statement}
 use Rattle.sheets.proofs.layout.put_told.Tie as tie
 
-enum-told : tie.Need-enum-told
-enum-told c = search needs
-
-put-pair-requires : tie.Need-put-pair-requires
-put-pair-requires c κs = search needs
-
-enum-told-2 : tie.Need-enum-told-2
-enum-told-2 c = search needs
-
-put-pair-requires-2 : tie.Need-put-pair-requires-2
-put-pair-requires-2 c κs = search needs
-
-same-length : tie.Need-same-length
-same-length c = search needs
-
 returns : tie.Need-returns
-returns c = rw (c .before .before .before .before .enum-told .given .1) (c .before .before .put-pair .ensures)
-
-same-length-2 : tie.Need-same-length-2
-same-length-2 c = search needs
+returns c =
+    let at-enum-told = c .before .before .before .before in
+    rw (at-enum-told .enum-told .given .1) (c .before .before .put-pair .ensures)
 
 returns-2 : tie.Need-returns-2
-returns-2 c = rw (c .before .before .before .before .enum-told2 .given .1) (c .before .before .put-pair2 .ensures)
+returns-2 c =
+    let at-enum-told2 = c .before .before .before .before in
+    rw (at-enum-told2 .enum-told2 .given .1) (c .before .before .put-pair2 .ensures)
 
 pub put-told-spec : {M : Type 1} → statement M
 put-told-spec =
     tie.close
     (tie.spec
-    enum-told
-    put-pair-requires
-    enum-told-2
-    put-pair-requires-2
-    same-length
+    (λ c. search needs)
+    (λ c κs. search needs)
+    (λ c. search needs)
+    (λ c κs. search needs)
+    (λ c. search needs)
     returns
-    same-length-2
+    (λ c. search needs)
     returns-2)

@@ -5,31 +5,24 @@ use Rattle.stamps.specs.Stamps.Laws.{done-is}
 use Rattle.sheets.proofs.lists.done_before.Statement.{statement}
 use Rattle.sheets.proofs.lists.done_before.Tie as tie
 
-were-together-requires : tie.Need-were-together-requires
-were-together-requires c κs = search needs
-
 returns : tie.Need-returns
 returns c = rw (done-is, ← c .before .were-together .ensures, c .if1 .taken)
-
-was-used-requires : tie.Need-was-used-requires
-was-used-requires c κs = search needs
 
 returns-2 : tie.Need-returns-2
 returns-2 c = rw (done-is, ← c .before .before .before .were-together .ensures, c .before .before .if1 .left, ← c .before .was-used .ensures, c .if2 .taken)
 
-was-used-requires-2 : tie.Need-was-used-requires-2
-was-used-requires-2 c κs = search needs
-
 returns-3 : tie.Need-returns-3
-returns-3 c = rw (done-is, ← c .before .before .before .before .were-together .ensures, c .before .before .before .if1 .left, ← c .before .before .was-used .ensures, c .before .if2 .left) (c .was-used2 .ensures)
+returns-3 c =
+    let at-were-together = c .before .before .before .before in
+    rw (done-is, ← at-were-together .were-together .ensures, c .before .before .before .if1 .left, ← c .before .before .was-used .ensures, c .before .if2 .left) (c .was-used2 .ensures)
 
 pub done-before-spec : {M : Type 1} → statement M
 done-before-spec =
     tie.close
     (tie.spec
-    were-together-requires
+    (λ c κs. search needs)
     returns
-    was-used-requires
+    (λ c κs. search needs)
     returns-2
-    was-used-requires-2
+    (λ c κs. search needs)
     returns-3)

@@ -8,14 +8,8 @@ use Rattle.sheets.proofs.lists.was_probed.Tie as tie
 returns : tie.Need-returns
 returns c = probed-none _ _ _ _ (c .if1 .taken)
 
-sub-entry-at : tie.Need-sub-entry-at
-sub-entry-at c = search needs
-
-entry-at-requires : tie.Need-entry-at-requires
-entry-at-requires c κs = search needs
-
 returns-2 : tie.Need-returns-2
 returns-2 c = probed-some _ _ _ _ _ (c .before .before .if1 .left) (c .before .entry-at .ensures)
 
 pub was-probed-spec : {M : Type 1} → statement M
-was-probed-spec = tie.close (tie.spec returns sub-entry-at entry-at-requires returns-2)
+was-probed-spec = tie.close (tie.spec returns (λ c. search needs) (λ c κs. search needs) returns-2)

@@ -17,18 +17,6 @@ abbrev μ-loop : tie.MeasureT-loop
 loop-holds : tie.Need-loop-holds Inv-loop μ-loop
 loop-holds c = (search needs, looked-first _ _ _ _)
 
-entry-at-requires : tie.Need-entry-at-requires Inv-loop μ-loop
-entry-at-requires c κs = search needs
-
-run-covers-requires : tie.Need-run-covers-requires Inv-loop μ-loop
-run-covers-requires c κs = search needs
-
-add-e : tie.Need-add-e Inv-loop μ-loop
-add-e c = search needs
-
-loop-less : tie.Need-loop-less Inv-loop μ-loop
-loop-less c = search needs
-
 loop-again : tie.Need-loop-again Inv-loop μ-loop
 loop-again c = (omega arith, looked-next _ _ _ _ _ _ _ (c .before .before .before .loop .inv .1) (c .run-covers .ensures ∙ rw (c .before .entry-at .ensures)))
 
@@ -42,9 +30,9 @@ was-used-spec =
     Inv-loop
     μ-loop
     loop-holds
-    entry-at-requires
-    run-covers-requires
-    add-e
-    loop-less
+    (λ c κs. search needs)
+    (λ c κs. search needs)
+    (λ c. search needs)
+    (λ c. search needs)
     loop-again
     returns)

@@ -21,13 +21,19 @@ loop-holds : tie.Need-loop-holds Inv-loop μ-loop
 loop-holds c = tallied-first _ _ _ _ (c .next-due .ensures)
 
 add-n : tie.Need-add-n Inv-loop μ-loop
-add-n c = omega (arith, tallied-more _ _ _ _ _ (c .before .loop .inv) (c .loop-test .taken), left-few (c .before .before .before .before .before .before .args .job .scope) (tableOf (c .before .before .before .before .before .before .args .job) (c .before .before .before .before .before .before .args .own .now) (c .before .before .before .before .before .before .args .facing .now) (c .before .before .before .before .before .before .args .probe .now) (c .before .before .before .before .before .before .args .counts .now)) (c .before .before .before .before .before .before .pre .own-few) (c .before .before .before .before .before .before .pre .facing-few))
+add-n c =
+    let entry = c .before .before .before .before .before .before in
+    omega (arith, tallied-more _ _ _ _ _ (c .before .loop .inv) (c .loop-test .taken), left-few (entry .args .job .scope) (tableOf (entry .args .job) (entry .args .own .now) (entry .args .facing .now) (entry .args .probe .now) (entry .args .counts .now)) (entry .pre .own-few) (entry .pre .facing-few))
 
 add-t14 : tie.Need-add-t14 Inv-loop μ-loop
-add-t14 c = omega (arith, c .before .before .before .before .before .before .pre .facing-few, c .before .loop .inv .spot .in-row (c .loop-test .taken))
+add-t14 c =
+    let entry = c .before .before .before .before .before .before in
+    omega (arith, entry .pre .facing-few, c .before .loop .inv .spot .in-row (c .loop-test .taken))
 
 next-due-requires-2 : tie.Need-next-due-requires-2 Inv-loop μ-loop
-next-due-requires-2 c κs = (c .before .before .before .before .before .before .pre, c .before .loop .inv .spot .in-rows, omega (arith, c .before .loop .inv .spot .in-row (c .loop-test .taken)))
+next-due-requires-2 c κs =
+    let entry = c .before .before .before .before .before .before in
+    (entry .pre, c .before .loop .inv .spot .in-rows, omega (arith, c .before .loop .inv .spot .in-row (c .loop-test .taken)))
 
 loop-less : tie.Need-loop-less Inv-loop μ-loop
 loop-less c = tallied-less _ _ _ _ _ (c .before .before .loop .inv) _ _ (c .before .loop-test .taken) (c .next-due2 .ensures)

@@ -4,12 +4,6 @@ use borrow.Author.Needs.{needs}
 use Rattle.sheets.proofs.pairs.is_open.Statement.{statement}
 use Rattle.sheets.proofs.pairs.is_open.Tie as tie
 
-meets-row-requires : tie.Need-meets-row-requires
-meets-row-requires c κs = search needs
-
-done-before-requires : tie.Need-done-before-requires
-done-before-requires c κs = search needs
-
 returns : tie.Need-returns
 returns c = rw (← c .before .before .meets-row .ensures, c .before .if1 .taken, c .done-before .ensures)
 
@@ -17,4 +11,4 @@ returns-2 : tie.Need-returns-2
 returns-2 c = rw (← c .before .meets-row .ensures, c .if1 .left)
 
 pub is-open-spec : {M : Type 1} → statement M
-is-open-spec = tie.close (tie.spec meets-row-requires done-before-requires returns returns-2)
+is-open-spec = tie.close (tie.spec (λ c κs. search needs) (λ c κs. search needs) returns returns-2)

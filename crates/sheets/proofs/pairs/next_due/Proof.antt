@@ -14,22 +14,24 @@ abbrev μ-loop : tie.MeasureT-loop
 μ-loop job own facing probe counts rows row₀ facing-row₀ row facing-row = rows - row
 
 loop-holds : tie.Need-loop-holds Inv-loop μ-loop
-loop-holds c = walked-first _ _ _ _ (c .before .before .before .pre .1) (c .before .before .before .pre .2)
+loop-holds c =
+    let entry = c .before .before .before in
+    walked-first _ _ _ _ (entry .pre .1) (entry .pre .2)
 
 next-facing-requires : tie.Need-next-facing-requires Inv-loop μ-loop
-next-facing-requires c κs = (c .before .before .before .before .before .pre .0, c .loop-test .taken, c .before .loop .inv .in-cols)
+next-facing-requires c κs =
+    let entry = c .before .before .before .before .before in
+    (entry .pre .0, c .loop-test .taken, c .before .loop .inv .in-cols)
 
 returns : tie.Need-returns Inv-loop μ-loop
-returns c = walked-found _ _ _ _ _ _ (c .before .before .before .before .loop .inv) _ (c .before .before .before .loop-test .taken) (c .before .before .next-facing .ensures) (c .if1 .taken)
-
-add-row : tie.Need-add-row Inv-loop μ-loop
-add-row c = search needs
-
-loop-less : tie.Need-loop-less Inv-loop μ-loop
-loop-less c = search needs
+returns c =
+    let at-loop = c .before .before .before .before in
+    walked-found _ _ _ _ _ _ (at-loop .loop .inv) _ (c .before .before .before .loop-test .taken) (c .before .before .next-facing .ensures) (c .if1 .taken)
 
 loop-again : tie.Need-loop-again Inv-loop μ-loop
-loop-again c = walked-row _ _ _ _ _ _ (c .before .before .before .before .loop .inv) _ (c .before .before .before .loop-test .taken) (c .before .before .next-facing .ensures) (c .if1 .left)
+loop-again c =
+    let at-loop = c .before .before .before .before in
+    walked-row _ _ _ _ _ _ (at-loop .loop .inv) _ (c .before .before .before .loop-test .taken) (c .before .before .next-facing .ensures) (c .if1 .left)
 
 returns-2 : tie.Need-returns-2 Inv-loop μ-loop
 returns-2 c = walked-end _ _ _ _ _ _ (c .before .loop .inv) (c .loop-test .left)
@@ -43,7 +45,7 @@ next-due-spec =
     loop-holds
     next-facing-requires
     returns
-    add-row
-    loop-less
+    (λ c. search needs)
+    (λ c. search needs)
     loop-again
     returns-2)

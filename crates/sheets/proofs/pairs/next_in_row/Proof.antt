@@ -22,32 +22,19 @@ Inv-loop scope x facing others from probe mine theirs j₀ j =
 abbrev μ-loop : tie.MeasureT-loop
 μ-loop scope x facing others from probe mine theirs j₀ j = others - j
 
-next-match-requires : tie.Need-next-match-requires Inv-loop μ-loop
-next-match-requires c κs = search needs
-
 loop-holds : tie.Need-loop-holds Inv-loop μ-loop
 loop-holds c = sought-first _ _ _ _ _ (c .next-match .ensures)
 
-row-at-requires : tie.Need-row-at-requires Inv-loop μ-loop
-row-at-requires c κs = search needs
-
-is-open-requires : tie.Need-is-open-requires Inv-loop μ-loop
-is-open-requires c κs = search needs
-
 returns : tie.Need-returns Inv-loop μ-loop
-returns c = sought-found _ _ _ _ _ (c .before .before .before .before .loop .inv) (c .before .before .before .loop-test .taken) (rw (← c .before .before .row-at .ensures) (sym (c .before .is-open .ensures) ∙ c .if1 .taken))
-
-add-next-match : tie.Need-add-next-match Inv-loop μ-loop
-add-next-match c = search needs
-
-next-match-requires-2 : tie.Need-next-match-requires-2 Inv-loop μ-loop
-next-match-requires-2 c κs = search needs
-
-loop-less : tie.Need-loop-less Inv-loop μ-loop
-loop-less c = search needs
+returns c =
+    let at-loop = c .before .before .before .before in
+    sought-found _ _ _ _ _ (at-loop .loop .inv) (c .before .before .before .loop-test .taken) (rw (← c .before .before .row-at .ensures) (sym (c .before .is-open .ensures) ∙ c .if1 .taken))
 
 loop-again : tie.Need-loop-again Inv-loop μ-loop
-loop-again c = sought-next _ _ _ _ _ (c .before .before .before .before .before .loop .inv) _ (c .before .before .before .before .loop-test .taken) (rw (← c .before .before .before .row-at .ensures) (sym (c .before .before .is-open .ensures) ∙ c .before .if1 .left)) (c .next-match2 .ensures)
+loop-again c =
+    let at-loop-test = c .before .before .before .before in
+    let at-loop = at-loop-test .before in
+    sought-next _ _ _ _ _ (at-loop .loop .inv) _ (at-loop-test .loop-test .taken) (rw (← c .before .before .before .row-at .ensures) (sym (c .before .before .is-open .ensures) ∙ c .before .if1 .left)) (c .next-match2 .ensures)
 
 returns-2 : tie.Need-returns-2 Inv-loop μ-loop
 returns-2 c = sought-end _ _ _ _ _ (c .before .loop .inv) (c .loop-test .left)
@@ -58,13 +45,13 @@ next-in-row-spec =
     (tie.spec
     Inv-loop
     μ-loop
-    next-match-requires
+    (λ c κs. search needs)
     loop-holds
-    row-at-requires
-    is-open-requires
+    (λ c κs. search needs)
+    (λ c κs. search needs)
     returns
-    add-next-match
-    next-match-requires-2
-    loop-less
+    (λ c. search needs)
+    (λ c κs. search needs)
+    (λ c. search needs)
     loop-again
     returns-2)

@@ -18,23 +18,15 @@ abbrev μ-loop : tie.MeasureT-loop
 loop-holds : tie.Need-loop-holds Inv-loop μ-loop
 loop-holds c = passed-first _ _ _ (c .before .pre .1)
 
-item-at-requires : tie.Need-item-at-requires Inv-loop μ-loop
-item-at-requires c κs = search needs
-
-items-match-requires : tie.Need-items-match-requires Inv-loop μ-loop
-items-match-requires c κs = search needs
-
 returns : tie.Need-returns Inv-loop μ-loop
-returns c = passed-found _ _ _ _ (c .before .before .before .before .loop .inv) (ap (itemsMatch _) (sym (c .before .before .item-at .ensures)) ∙ sym (c .before .items-match .ensures) ∙ c .if1 .taken)
-
-add-j : tie.Need-add-j Inv-loop μ-loop
-add-j c = search needs
-
-loop-less : tie.Need-loop-less Inv-loop μ-loop
-loop-less c = search needs
+returns c =
+    let at-loop = c .before .before .before .before in
+    passed-found _ _ _ _ (at-loop .loop .inv) (ap (itemsMatch _) (sym (c .before .before .item-at .ensures)) ∙ sym (c .before .items-match .ensures) ∙ c .if1 .taken)
 
 loop-again : tie.Need-loop-again Inv-loop μ-loop
-loop-again c = passed-one _ _ _ _ (c .before .before .before .before .loop .inv) (c .before .before .before .loop-test .taken) (ap (itemsMatch _) (sym (c .before .before .item-at .ensures)) ∙ sym (c .before .items-match .ensures) ∙ c .if1 .left)
+loop-again c =
+    let at-loop = c .before .before .before .before in
+    passed-one _ _ _ _ (at-loop .loop .inv) (c .before .before .before .loop-test .taken) (ap (itemsMatch _) (sym (c .before .before .item-at .ensures)) ∙ sym (c .before .items-match .ensures) ∙ c .if1 .left)
 
 returns-2 : tie.Need-returns-2 Inv-loop μ-loop
 returns-2 c = passed-end _ _ _ _ (c .before .loop .inv) (c .loop-test .left)
@@ -46,10 +38,10 @@ next-match-spec =
     Inv-loop
     μ-loop
     loop-holds
-    item-at-requires
-    items-match-requires
+    (λ c κs. search needs)
+    (λ c κs. search needs)
     returns
-    add-j
-    loop-less
+    (λ c. search needs)
+    (λ c. search needs)
     loop-again
     returns-2)

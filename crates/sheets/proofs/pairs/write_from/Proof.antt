@@ -10,21 +10,17 @@ use Rattle.sheets.proofs.pairs.write_from.Tie as tie
 returns : tie.Need-returns
 returns c = writing-none _ _ _ _ _ _ (none-position _ _ _ (c .if1 .taken)) (c .if1 .taken)
 
-div-t12 : tie.Need-div-t12
-div-t12 c = search needs
-
-rem-t13 : tie.Need-rem-t13
-rem-t13 c = search needs
-
 write-due-requires : tie.Need-write-due-requires
-write-due-requires c κs = (c .before .before .before .before .before .before .pre .0, div-le-of-le-mul _ (rw mul-comm at (c .before .before .before .before .before .before .pre .1)), le-of-lt (mod-lt _ (pos-of-ne-zero (c .before .if1 .left))), c .before .before .before .before .before .before .pre .1, c .before .before .before .before .before .before .pre .2)
-
-same-length : tie.Need-same-length
-same-length c = search needs
+write-due-requires c κs =
+    let entry = c .before .before .before .before .before .before in
+    (entry .pre .0, div-le-of-le-mul _ (rw mul-comm at (entry .pre .1)), le-of-lt (mod-lt _ (pos-of-ne-zero (c .before .if1 .left))), entry .pre .1, entry .pre .2)
 
 returns-2 : tie.Need-returns-2
-returns-2 c = writes-from _ _ _ _ _ _ _ _ (c .before .before .before .before .if1 .left) (c .before .before .before .before .before .before .before .before .before .pre .1) (c .before .before .write-due .ensures)
+returns-2 c =
+    let at-if1 = c .before .before .before .before in
+    let entry = at-if1 .before .before .before .before .before in
+    writes-from _ _ _ _ _ _ _ _ (at-if1 .if1 .left) (entry .pre .1) (c .before .before .write-due .ensures)
 
 pub write-from-spec : {M : Type 1} → statement M
 write-from-spec =
-    tie.close (tie.spec returns div-t12 rem-t13 write-due-requires same-length returns-2)
+    tie.close (tie.spec returns (λ c. search needs) (λ c. search needs) write-due-requires (λ c. search needs) returns-2)

@@ -21,10 +21,14 @@ loop-holds : tie.Need-loop-holds Inv-loop μ-loop
 loop-holds c = (search needs, sized-first _ _)
 
 add-counts : tie.Need-add-counts Inv-loop μ-loop
-add-counts c = omega (arith, sized-few _ _ _ _ (c .before .before .before .before .before .loop .inv .1) (c .part-of .result) (omega arith))
+add-counts c =
+    let at-loop = c .before .before .before .before .before in
+    omega (arith, sized-few _ _ _ _ (at-loop .loop .inv .1) (c .part-of .result) (omega arith))
 
 loop-again : tie.Need-loop-again Inv-loop μ-loop
-loop-again c = (omega arith, sized-one _ _ _ _ (c .before .before .before .before .before .loop .inv .1) _ (omega arith) (eq-eqb _ _ (sym (c .before .before .before .dts-at .ensures) ∙ c .before .before .if1 .taken)) (c .part-of .ensures .0 ∙ ap (partOf _) (c .before .item-at .ensures)))
+loop-again c =
+    let at-loop = c .before .before .before .before .before in
+    (omega arith, sized-one _ _ _ _ (at-loop .loop .inv .1) _ (omega arith) (eq-eqb _ _ (sym (c .before .before .before .dts-at .ensures) ∙ c .before .before .if1 .taken)) (c .part-of .ensures .0 ∙ ap (partOf _) (c .before .item-at .ensures)))
 
 loop-again-2 : tie.Need-loop-again-2 Inv-loop μ-loop
 loop-again-2 c = (omega arith, sized-none _ _ _ _ (c .before .before .before .loop .inv .1) (ne-eqb _ _ (λ e. c .if1 .left (c .before .dts-at .ensures ∙ e))))

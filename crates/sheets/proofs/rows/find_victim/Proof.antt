@@ -7,7 +7,9 @@ use Rattle.sheets.proofs.rows.find_victim.Statement.{statement}
 use Rattle.sheets.proofs.rows.find_victim.Tie as tie
 
 returns : tie.Need-returns
-returns c = victim-is _ _ _ _ _ _ _ _ _ _ (c .before .before .before .before .before .before .pre .3) (c .before .before .before .count-portions .ensures) (c .before .count-portions2 .ensures) refl (c .before .before .largest-of .ensures) (c .largest-of2 .ensures)
+returns c =
+    let entry = c .before .before .before .before .before .before in
+    victim-is _ _ _ _ _ _ _ _ _ _ (entry .pre .3) (c .before .before .before .count-portions .ensures) (c .before .count-portions2 .ensures) refl (c .before .before .largest-of .ensures) (c .largest-of2 .ensures)
 
 pub find-victim-spec : {M : Type 1} → statement M
 find-victim-spec =

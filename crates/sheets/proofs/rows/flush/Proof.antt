@@ -17,35 +17,17 @@ abbrev μ-loop : tie.MeasureT-loop
 loop-holds : tie.Need-loop-holds Inv-loop μ-loop
 loop-holds c = (search needs, flushing-first _ _ _ _)
 
-add-i : tie.Need-add-i Inv-loop μ-loop
-add-i c = search needs
-
-is-hot-requires : tie.Need-is-hot-requires Inv-loop μ-loop
-is-hot-requires c κs = search needs
-
-add-done : tie.Need-add-done Inv-loop μ-loop
-add-done c = search needs
-
-add-put-dts : tie.Need-add-put-dts Inv-loop μ-loop
-add-put-dts c = search needs
-
-put-dts-requires : tie.Need-put-dts-requires Inv-loop μ-loop
-put-dts-requires c κs = search needs
-
-loop-less : tie.Need-loop-less Inv-loop μ-loop
-loop-less c = search needs
-
 loop-again : tie.Need-loop-again Inv-loop μ-loop
-loop-again c = (omega arith, rw (c .before .before .put-dts .ensures) (flushing-hot _ _ _ _ _ _ _ (c .before .before .before .before .before .before .before .before .loop .inv .1) (sym (c .before .before .before .before .before .is-hot .ensures) ∙ c .before .before .before .before .if1 .taken)))
-
-loop-less-2 : tie.Need-loop-less-2 Inv-loop μ-loop
-loop-less-2 c = search needs
+loop-again c =
+    let at-if1 = c .before .before .before .before in
+    let at-is-hot = at-if1 .before in
+    let at-loop = at-is-hot .before .before .before in
+    (omega arith, rw (c .before .before .put-dts .ensures) (flushing-hot _ _ _ _ _ _ _ (at-loop .loop .inv .1) (sym (at-is-hot .is-hot .ensures) ∙ at-if1 .if1 .taken)))
 
 loop-again-2 : tie.Need-loop-again-2 Inv-loop μ-loop
-loop-again-2 c = (omega arith, flushing-cold _ _ _ _ _ _ _ (c .before .before .before .before .loop .inv .1) (sym (c .before .is-hot .ensures) ∙ c .if1 .left))
-
-same-length : tie.Need-same-length Inv-loop μ-loop
-same-length c = search needs
+loop-again-2 c =
+    let at-loop = c .before .before .before .before in
+    (omega arith, flushing-cold _ _ _ _ _ _ _ (at-loop .loop .inv .1) (sym (c .before .is-hot .ensures) ∙ c .if1 .left))
 
 returns : tie.Need-returns Inv-loop μ-loop
 returns c = let e : c .before .loop .i ≡ c .before .before .before .args .rows = omega arith in
@@ -58,14 +40,14 @@ flush-spec =
     Inv-loop
     μ-loop
     loop-holds
-    add-i
-    is-hot-requires
-    add-done
-    add-put-dts
-    put-dts-requires
-    loop-less
+    (λ c. search needs)
+    (λ c κs. search needs)
+    (λ c. search needs)
+    (λ c. search needs)
+    (λ c κs. search needs)
+    (λ c. search needs)
     loop-again
-    loop-less-2
+    (λ c. search needs)
     loop-again-2
-    same-length
+    (λ c. search needs)
     returns)

@@ -6,15 +6,6 @@ use borrow.Author.Tests.{eq-eqb, ne-eqb}
 use Rattle.sheets.proofs.rows.is_hot.Statement.{statement}
 use Rattle.sheets.proofs.rows.is_hot.Tie as tie
 
-dts-at-requires : tie.Need-dts-at-requires
-dts-at-requires c κs = search needs
-
-item-at-requires : tie.Need-item-at-requires
-item-at-requires c κs = search needs
-
-part-of-requires : tie.Need-part-of-requires
-part-of-requires c κs = search needs
-
 returns : tie.Need-returns
 returns c = rw (eq-eqb _ _ (sym (c .before .before .before .dts-at .ensures) ∙ c .before .before .if1 .taken), ← c .before .item-at .ensures, c .part-of .ensures .0)
 
@@ -23,4 +14,4 @@ returns-2 c = rw (ne-eqb _ _ (λ e. c .if1 .left (c .before .dts-at .ensures ∙
 
 pub is-hot-spec : {M : Type 1} → statement M
 is-hot-spec =
-    tie.close (tie.spec dts-at-requires item-at-requires part-of-requires returns returns-2)
+    tie.close (tie.spec (λ c κs. search needs) (λ c κs. search needs) (λ c κs. search needs) returns returns-2)

@@ -21,10 +21,15 @@ loop-holds : tie.Need-loop-holds Inv-loop μ-loop
 loop-holds c = (search needs, record { is-top = search needs })
 
 loop-again : tie.Need-loop-again Inv-loop μ-loop
-loop-again c = (omega arith, rw (c .before .before .before .before .dts-at .ensures) (topped-more _ _ _ _ _ (c .before .before .before .before .before .before .loop .inv .1) (rw (← c .before .before .before .before .dts-at .ensures) (c .before .before .before .if1 .taken)) (eq-eqb _ _ (ap (partOf _) (sym (c .before .before .item-at .ensures)) ∙ sym (c .before .part-of .ensures .0) ∙ c .if2 .taken))))
+loop-again c =
+    let at-dts-at = c .before .before .before .before in
+    let at-loop = at-dts-at .before .before in
+    (omega arith, rw (at-dts-at .dts-at .ensures) (topped-more _ _ _ _ _ (at-loop .loop .inv .1) (rw (← at-dts-at .dts-at .ensures) (c .before .before .before .if1 .taken)) (eq-eqb _ _ (ap (partOf _) (sym (c .before .before .item-at .ensures)) ∙ sym (c .before .part-of .ensures .0) ∙ c .if2 .taken))))
 
 loop-again-2 : tie.Need-loop-again-2 Inv-loop μ-loop
-loop-again-2 c = (omega arith, topped-other _ _ _ _ _ (c .before .before .before .before .before .before .loop .inv .1) (ne-eqb _ _ (λ e. c .if2 .left (c .before .part-of .ensures .0 ∙ ap (partOf _) (c .before .before .item-at .ensures) ∙ e))))
+loop-again-2 c =
+    let at-loop = c .before .before .before .before .before .before in
+    (omega arith, topped-other _ _ _ _ _ (at-loop .loop .inv .1) (ne-eqb _ _ (λ e. c .if2 .left (c .before .part-of .ensures .0 ∙ ap (partOf _) (c .before .before .item-at .ensures) ∙ e))))
 
 loop-again-3 : tie.Need-loop-again-3 Inv-loop μ-loop
 loop-again-3 c = (omega arith, topped-less _ _ _ _ _ (c .before .before .before .loop .inv .1) (rw (← c .before .dts-at .ensures) (c .if1 .left)))
