@@ -128,7 +128,8 @@ module _ (start : World) (calls : List Lent) where
         → itemsMatch (rowsOf now A i .item) (rowsOf now B j .item) ≡ true → times (pairOf now i j) written ≡ 1
     -- c. "with both feeds closed and n matching pairs unwritten, a drain with room r ≥ 1 writes exactly min(r, n)"
     pub drain : bothClosed (now .session) ≡ true → (o : List ℕ) → 1 ≤ roomOf (length o) → Drained (left now written) (roomOf (length o)) (afterCall now o Drain)
-    -- d. "with room r each time Done comes at drain number ceil(n / r), at the first if n is 0": the drain after `os` has number length os + 1
+    -- d. "with room r each time Done comes at drain number ceil(n / r), at the first if n is 0": the drain after `os` has number k + 1, and once
+    -- n - k * r is 0 it answers Done 0
     pub drains : bothClosed (now .session) ≡ true → (r : ℕ) → 1 ≤ r → (os : List (List ℕ)) → Rooms r os → (o : List ℕ) → roomOf (length o) ≡ r
         → let n = length (left now written) in let k = length os in
         afterCall (run now written (drainsOf os) .world) o Drain .answer ≡ cond (leb (ceil n r) (suc k)) Done More (min r (n - k * r))
