@@ -7,7 +7,7 @@ use Prim.Native.Nat.{ℕ, _≤_}
 use native.Mathlib.Omega.{arith}
 use lib.ListN.{length, take, length-take}
 use Rattle.sheets.specs.Layout.{pairsNeed, roomOf}
-use Rattle.calls.specs.Answers.{pairsOf}
+use Rattle.calls.specs.Answers.{pairsOf, refused}
 use Rattle.calls.specs.Calls.{After, opens}
 use Rattle.calls.specs.World.{World}
 use Rattle.calls.specs.declared.types.Call.the-variants.{Drain}
@@ -17,7 +17,7 @@ use Rattle.calls.proofs.Laws.{pairs-fit, opens-none}
 use Rattle.lines.specs.declared.answering.Outcome.{Outcome}
 use Rattle.lines.specs.declared.answering.State.{State}
 use Rattle.lines.specs.declared.gathering.Gathered.{Gathered}
-use Rattle.lines.specs.Answering.{Turn, turned, refuses, isOpened, goesOn, begins, went, asks, drainsIn, turnOf, replied, answered, silent, Says}
+use Rattle.lines.specs.Answering.{Turn, turned, refuses, goesOn, begins, went, asks, drainsIn, turnOf, replied, answered, silent, Says}
 use Rattle.lines.specs.Gathering.{Held}
 use Rattle.lines.specs.Printing.{Put, replyMost, replyText}
 use Rattle.lines.specs.Reading.{roomMost, readLine}
@@ -39,9 +39,9 @@ unfolding drainsIn
 drains-fits room w o = omega (arith, pairs-fit w (take (pairsNeed room) o) Drain, length-take (pairsNeed room) o)
 
 begins-answer : (t : State) (r : Reply) → begins t r .answer ≡ r .answer
-begins-answer t r = go (isOpened (r .answer))
+begins-answer t r = go (refused (r .answer))
   where
-    go : (u : Bool) → (cond u (goesOn r) (record { answer = r .answer; state = t })) .answer ≡ r .answer
+    go : (u : Bool) → (cond u (record { answer = r .answer; state = t }) (goesOn r)) .answer ≡ r .answer
     go true = refl
     go false = refl
 

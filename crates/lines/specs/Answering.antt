@@ -1,14 +1,14 @@
 -- What a line is answered and what it leaves: the state, every word of the sheets and the output, the bytes of the reply.
 use mathlib.Core.Path.{_≡_}
-use mathlib.Core.Bool.{Bool, true, false, cond}
+use mathlib.Core.Bool.{true, false, cond}
 use mathlib.Core.List.{List, [], _++_}
 use Prim.Native.Nat.{ℕ, _≤_}
 use lib.ListN.{length, take, drop}
 use Rattle.sheets.specs.Layout.{pairsNeed}
+use Rattle.calls.specs.Answers.{refused}
 use Rattle.calls.specs.Calls.{After, after, fresh, opens, afterCall}
 use Rattle.calls.specs.Work.{world}
 use Rattle.calls.specs.World.{World}
-use Rattle.calls.specs.declared.types.Answer.{Answer}
 use Rattle.calls.specs.declared.types.Answer.the-variants as answer
 use Rattle.calls.specs.declared.types.Call.the-variants as call
 use Rattle.calls.specs.declared.types.Reply.{Reply}
@@ -50,24 +50,13 @@ turned r a b probe o = record { told = r; a = a; b = b; probe = probe; out = o }
 abbrev pub refuses : Why → State → Outcome
 refuses y t = record { answer = answer.Refused y; state = t }
 
--- an opening was accepted
-abbrev pub isOpened : Answer → Bool
-isOpened answer.Opened = true
-isOpened (answer.Taken n) = false
-isOpened (answer.Flushed n) = false
-isOpened (answer.Ran n) = false
-isOpened answer.Shut = false
-isOpened (answer.More n) = false
-isOpened (answer.Done n) = false
-isOpened (answer.Refused y) = false
-
 -- the session that a call hands back goes on
 abbrev pub goesOn : Reply → Outcome
 goesOn r = record { answer = r .answer; state = going (r .session) }
 
 -- "An accepted START begins afresh; a refused one keeps the old session"
 abbrev pub begins : State → Reply → Outcome
-begins t r = cond (isOpened (r .answer)) (goesOn r) (record { answer = r .answer; state = t })
+begins t r = cond (refused (r .answer)) (record { answer = r .answer; state = t }) (goesOn r)
 
 -- what a call leaves
 abbrev pub went : After → Turn

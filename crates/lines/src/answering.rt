@@ -18,11 +18,11 @@ ghost use mathlib.Core.Path.{_≡_};
 ghost use Prim.Native.Nat.{_≤_};
 ghost use lib.ListN.{length};
 ghost use Rattle.sheets.specs.Layout.{pairsNeed};
-ghost use Rattle.calls.specs.Answers.{pairsOf};
+ghost use Rattle.calls.specs.Answers.{pairsOf, refused};
 ghost use Rattle.calls.specs.Calls.{afterCall};
 ghost use Rattle.calls.specs.Work.{world};
 ghost use Rattle.lines.specs.Reading.{roomMost, readLine};
-ghost use Rattle.lines.specs.Answering.{unstarted, isOpened, goesOn, begins, turned, asks, drainsIn, turnOf, answered, Says};
+ghost use Rattle.lines.specs.Answering.{unstarted, goesOn, begins, turned, asks, drainsIn, turnOf, answered, Says};
 
 // The words of the output.
 pub const OUTPUT: usize = ROOM as usize * PAIR;
@@ -58,18 +58,18 @@ pub fn new_state() -> State
     }
 }
 
-fn is_opened(answer: Answer) -> bool
-    ensures { λ r. ⌜ r ≡ isOpened answer ⌝ }
+fn is_refused(answer: Answer) -> bool
+    ensures { λ r. ⌜ r ≡ refused answer ⌝ }
 {
     match answer {
-        Answer::Opened => true,
+        Answer::Opened => false,
         Answer::Taken(_) => false,
         Answer::Flushed(_) => false,
         Answer::Ran(_) => false,
         Answer::Shut => false,
         Answer::More(_) => false,
         Answer::Done(_) => false,
-        Answer::Refused(_) => false,
+        Answer::Refused(_) => true,
     }
 }
 
@@ -93,7 +93,7 @@ fn begin(state: State, reply: Reply) -> Outcome
     ensures { λ r. ⌜ r ≡ begins state reply ⌝ }
 {
     let answer = reply.answer;
-    if !is_opened(answer) {
+    if is_refused(answer) {
         return Outcome { answer, state };
     }
     go_on(reply)
