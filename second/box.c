@@ -178,6 +178,11 @@ static uint32_t room(const lent_sheets *sheets)
     return sheets->output.length / WORDS_A_PAIR;
 }
 
+static uint32_t lone_room(const lent_sheets *sheets)
+{
+    return sheets->output.length / WORDS_A_LONE_ROW;
+}
+
 /* The rows are named by source, since a call may look at B before A; the pair
  * written is always (A row, B row, key). */
 static void write_pair(const lent_sheets *sheets, uint32_t pair, uint32_t source,
@@ -187,6 +192,13 @@ static void write_pair(const lent_sheets *sheets, uint32_t pair, uint32_t source
     words[0] = source == SOURCE_A ? own : others;
     words[1] = source == SOURCE_A ? others : own;
     words[2] = key;
+}
+
+static void write_lone_row(const lent_sheets *sheets, uint32_t place, uint32_t number, uint32_t key)
+{
+    uint32_t *words = sheets->output.words + WORDS_A_LONE_ROW * place;
+    words[0] = number;
+    words[1] = key;
 }
 
 /* ---- checks ---- */
@@ -221,7 +233,9 @@ static bool bad_sheet(const session_record *record, const lent_sheets *sheets)
     for (uint32_t list = 0; list < SOURCES * record->partitions; list++)
         if (record->entries[list] > MOST_ENTRIES)
             return true;
-    return record->position > record->rows[SOURCE_A] * record->rows[SOURCE_B];
+    return record->position > record->rows[SOURCE_A] * record->rows[SOURCE_B]
+        || record->lone_position[SOURCE_A] > record->rows[SOURCE_A]
+        || record->lone_position[SOURCE_B] > record->rows[SOURCE_B];
 }
 
 static bool bad_key(uint32_t car, uint32_t lap)
@@ -243,6 +257,14 @@ static refusal no_portion(const session_record *record, const lent_sheets *sheet
     if (partition >= record->partitions)
         return BAD_PART;
     return both_closed(record) ? CLOSED : NO_REFUSAL;
+}
+
+/* The refusals that a drain and a lone call have in common, but for the room. */
+static refusal not_ended(const session_record *record, const lent_sheets *sheets)
+{
+    if (bad_sheet(record, sheets))
+        return BAD_SHEET;
+    return both_closed(record) ? NO_REFUSAL : STILL_OPEN;
 }
 
 /* ---- open and close ---- */
@@ -428,10 +450,9 @@ static uint32_t next_left(const session_record *record, const lent_sheets *sheet
 
 answer box_drain(session_record *record, const lent_sheets *sheets)
 {
-    if (bad_sheet(record, sheets))
-        return refused(BAD_SHEET);
-    if (!both_closed(record))
-        return refused(STILL_OPEN);
+    refusal why = not_ended(record, sheets);
+    if (why != NO_REFUSAL)
+        return refused(why);
     if (room(sheets) == 0)
         return room_short(1);
 
@@ -450,4 +471,52 @@ answer box_drain(session_record *record, const lent_sheets *sheets)
         return answered(MORE, pairs);
     record->position = end;
     return answered(DONE, pairs);
+}
+
+/* ---- lone rows ---- */
+
+/* Whether the other source has a row with this key, in memory or spooled. */
+static bool has_partner(const session_record *record, const lent_sheets *sheets,
+                        uint32_t source, uint32_t key)
+{
+    for (uint32_t r = 0; r < record->rows[other(source)]; r++) {
+        row seen = row_at(sheets, other(source), r);
+        if (seen.key == key)
+            return true;
+    }
+    return false;
+}
+
+/* The first row without a partner, at or after a row; the row count if there
+ * is none. */
+static uint32_t next_lone(const session_record *record, const lent_sheets *sheets,
+                          uint32_t source, uint32_t from)
+{
+    for (uint32_t r = from; r < record->rows[source]; r++)
+        if (!has_partner(record, sheets, source, row_at(sheets, source, r).key))
+            return r;
+    return record->rows[source];
+}
+
+answer box_lone(session_record *record, const lent_sheets *sheets, uint32_t source)
+{
+    refusal why = not_ended(record, sheets);
+    if (why != NO_REFUSAL)
+        return refused(why);
+    if (lone_room(sheets) == 0)
+        return room_short(1);
+
+    uint32_t end = record->rows[source];
+    uint32_t written = 0;
+    uint32_t at = next_lone(record, sheets, source, record->lone_position[source]);
+    while (at < end && written < lone_room(sheets)) {
+        write_lone_row(sheets, written, at, row_at(sheets, source, at).key);
+        written++;
+        record->lone_position[source] = at + 1;
+        at = next_lone(record, sheets, source, at + 1);
+    }
+    if (at < end)
+        return answered(MORE_LONE, written);
+    record->lone_position[source] = end;
+    return answered(DONE_LONE, written);
 }

@@ -1,7 +1,8 @@
 /* The box: two sources, their sheets, and the calls on them.
  *
- * Everything here follows document 01. The sheets belong to the caller and are
- * lent for one call; the session record is the caller's too. */
+ * Everything here follows document 01 and the request for lone rows. The sheets
+ * belong to the caller and are lent for one call; the session record is the
+ * caller's too. */
 #ifndef BOX_H
 #define BOX_H
 
@@ -23,7 +24,8 @@ enum {
     WORDS_A_ROW = 3,        /* key, ATS, DTS */
     WORDS_AN_ENTRY = 2,     /* DTS-last, ProbeTS */
     WORDS_A_LIST = WORDS_AN_ENTRY * MOST_ENTRIES,
-    WORDS_A_PAIR = 3        /* A row, B row, key */
+    WORDS_A_PAIR = 3,       /* A row, B row, key */
+    WORDS_A_LONE_ROW = 2    /* row, key */
 };
 
 typedef struct {
@@ -35,6 +37,7 @@ typedef struct {
     bool closed[SOURCES];
     uint32_t entries[LISTS];    /* list sP + p; those from 2P on are no lists */
     uint32_t position;
+    uint32_t lone_position[SOURCES];
 } session_record;
 
 typedef struct {
@@ -48,7 +51,18 @@ typedef struct {
     sheet output;
 } lent_sheets;
 
-typedef enum { OPENED, TAKEN, FLUSHED, RAN, SHUT, MORE, DONE, REFUSED } answer_kind;
+typedef enum {
+    OPENED,
+    TAKEN,
+    FLUSHED,
+    RAN,
+    SHUT,
+    MORE,
+    DONE,
+    MORE_LONE,
+    DONE_LONE,
+    REFUSED
+} answer_kind;
 
 /* Numbers 1 to 8 of the table of refusals; 9 and 10 are the program's. */
 typedef enum {
@@ -81,5 +95,6 @@ answer box_run(session_record *record, const lent_sheets *sheets,
                uint32_t source, uint32_t partition);
 answer box_close(session_record *record, const lent_sheets *sheets, uint32_t source);
 answer box_drain(session_record *record, const lent_sheets *sheets);
+answer box_lone(session_record *record, const lent_sheets *sheets, uint32_t source);
 
 #endif

@@ -4,9 +4,10 @@
  * ends at LF or at the end of input, an empty rest giving no line.
  *
  * A case is: the kind of the call and its three arguments; the record, as P,
- * M, N, clock, rows of A and B, closed A and B, 32 entry counts, position; the
- * lengths of the sheets A, B, probe and output; the words of these sheets. The
- * numbers are decimal, of 32 bits; spaces and tabs part them. */
+ * M, N, clock, rows of A and B, closed A and B, 32 entry counts, position, lone
+ * positions of A and B; the lengths of the sheets A, B, probe and output; the
+ * words of these sheets. The numbers are decimal, of 32 bits; spaces and tabs
+ * part them. */
 #include <stdio.h>
 #include <stdlib.h>
 
@@ -19,7 +20,7 @@ enum {
     SHEETS = 4
 };
 
-typedef enum { OPEN, ARRIVE, EVICT, RUN, CLOSE, DRAIN } call_kind;
+typedef enum { OPEN, ARRIVE, EVICT, RUN, CLOSE, DRAIN, LONE } call_kind;
 
 typedef struct {
     uint32_t kind;
@@ -106,7 +107,7 @@ static bool names_source(uint32_t kind)
 
 static bool read_call_itself(call *asked)
 {
-    if (!read_up_to(&asked->kind, DRAIN) || !read_numbers(asked->arguments, 3))
+    if (!read_up_to(&asked->kind, LONE) || !read_numbers(asked->arguments, 3))
         return false;
     return !names_source(asked->kind) || asked->arguments[0] <= SOURCE_B;
 }
@@ -121,7 +122,8 @@ static bool read_record(session_record *record)
         && read_flag(&record->closed[SOURCE_A])
         && read_flag(&record->closed[SOURCE_B])
         && read_numbers(record->entries, LISTS)
-        && read_number(&record->position);
+        && read_number(&record->position)
+        && read_numbers(record->lone_position, SOURCES);
 }
 
 /* Each sheet gets exactly the words it has, so that a checking build sees any
@@ -176,8 +178,10 @@ static answer perform(call *asked)
         return box_run(record, &asked->sheets, arguments[0], arguments[1]);
     case CLOSE:
         return box_close(record, &asked->sheets, arguments[0]);
-    default: /* DRAIN */
+    case DRAIN:
         return box_drain(record, &asked->sheets);
+    default: /* LONE */
+        return box_lone(record, &asked->sheets, arguments[0]);
     }
 }
 
@@ -205,7 +209,9 @@ static void print_record(const session_record *record)
            (unsigned)record->rows[SOURCE_A], (unsigned)record->rows[SOURCE_B],
            record->closed[SOURCE_A], record->closed[SOURCE_B]);
     print_numbers(record->entries, LISTS);
-    printf(" %u\n", (unsigned)record->position);
+    printf(" %u", (unsigned)record->position);
+    print_numbers(record->lone_position, SOURCES);
+    printf("\n");
 }
 
 static void print_sheet(const char *name, const sheet *printed)

@@ -19,13 +19,13 @@ static uint32_t row_words[SOURCES][WORDS_A_ROW * SHEET_ROWS];
 static uint32_t probe_words[WORDS_A_LIST * LISTS];
 static uint32_t output_words[WORDS_A_PAIR * OUTPUT_ROOM];
 
-static lent_sheets sheets_with_room(uint32_t room)
+static lent_sheets sheets_with_output(uint32_t words)
 {
     return (lent_sheets){
         .rows = { { row_words[SOURCE_A], WORDS_A_ROW * SHEET_ROWS },
                   { row_words[SOURCE_B], WORDS_A_ROW * SHEET_ROWS } },
         .probe = { probe_words, WORDS_A_LIST * LISTS },
-        .output = { output_words, WORDS_A_PAIR * room }
+        .output = { output_words, words }
     };
 }
 
@@ -118,7 +118,7 @@ static bool read_source(field letter, uint32_t *source)
 
 /* ---- commands ---- */
 
-typedef enum { START, ARRIVE, EVICT, RUN, CLOSE, DRAIN } command_kind;
+typedef enum { START, ARRIVE, EVICT, RUN, CLOSE, DRAIN, LONE } command_kind;
 
 typedef struct {
     command_kind kind;
@@ -160,11 +160,22 @@ static bool read_close(const field *fields, size_t count, command *read)
     return count == 2 && read_source(fields[1], &read->source);
 }
 
+static bool read_room(field digits, uint32_t *room)
+{
+    return read_number(digits, room) && *room <= OUTPUT_ROOM;
+}
+
 static bool read_drain(const field *fields, size_t count, command *read)
 {
     read->kind = DRAIN;
-    return count == 2 && read_number(fields[1], &read->numbers[0])
-        && read->numbers[0] <= OUTPUT_ROOM;
+    return count == 2 && read_room(fields[1], &read->numbers[0]);
+}
+
+static bool read_lone(const field *fields, size_t count, command *read)
+{
+    read->kind = LONE;
+    return count == 3 && read_source(fields[1], &read->source)
+        && read_room(fields[2], &read->numbers[0]);
 }
 
 /* False for a line that can't be read. */
@@ -186,6 +197,8 @@ static bool read_command(const input_line *line, command *read)
         return read_close(fields, count, read);
     if (is_word(fields[0], "DRAIN"))
         return read_drain(fields, count, read);
+    if (is_word(fields[0], "LONE"))
+        return read_lone(fields, count, read);
     return false;
 }
 
@@ -199,22 +212,33 @@ static void print_pairs(uint32_t pairs)
     }
 }
 
+static void print_lone_rows(uint32_t rows)
+{
+    for (uint32_t place = 0; place < rows; place++) {
+        const uint32_t *words = output_words + WORDS_A_LONE_ROW * place;
+        printf("LONE %u %u\n", (unsigned)words[0], (unsigned)words[1]);
+    }
+}
+
 static void print_answer(answer given)
 {
+    bool done = given.kind == DONE || given.kind == DONE_LONE;
     if (given.kind == TAKEN || given.kind == RAN || given.kind == MORE || given.kind == DONE)
         print_pairs(given.number);
+    if (given.kind == MORE_LONE || given.kind == DONE_LONE)
+        print_lone_rows(given.number);
     if (given.kind == REFUSED && given.number == ROOM_SHORT)
         printf("NO %u %u\n", (unsigned)given.number, (unsigned)given.needed);
     else if (given.kind == REFUSED)
         printf("NO %u\n", (unsigned)given.number);
     else
-        printf("%s %u\n", given.kind == DONE ? "DONE" : "OK", (unsigned)given.number);
+        printf("%s %u\n", done ? "DONE" : "OK", (unsigned)given.number);
 }
 
 /* A refused opening hands back zeros; the old session is kept instead. */
 static answer start(session_record *record, bool *started, const command *asked)
 {
-    lent_sheets sheets = sheets_with_room(OUTPUT_ROOM);
+    lent_sheets sheets = sheets_with_output(WORDS_A_PAIR * OUTPUT_ROOM);
     session_record opened;
     answer given = box_open(&opened, &sheets,
                             asked->numbers[0], asked->numbers[1], asked->numbers[2]);
@@ -225,9 +249,19 @@ static answer start(session_record *record, bool *started, const command *asked)
     return given;
 }
 
+/* A drain and a lone call have the room that their line names. */
+static uint32_t output_length(const command *asked)
+{
+    if (asked->kind == DRAIN)
+        return WORDS_A_PAIR * asked->numbers[0];
+    if (asked->kind == LONE)
+        return WORDS_A_LONE_ROW * asked->numbers[0];
+    return WORDS_A_PAIR * OUTPUT_ROOM;
+}
+
 static answer perform(session_record *record, const command *asked)
 {
-    lent_sheets sheets = sheets_with_room(asked->kind == DRAIN ? asked->numbers[0] : OUTPUT_ROOM);
+    lent_sheets sheets = sheets_with_output(output_length(asked));
     switch (asked->kind) {
     case ARRIVE:
         return box_arrive(record, &sheets, asked->source, asked->numbers[0], asked->numbers[1]);
@@ -237,8 +271,10 @@ static answer perform(session_record *record, const command *asked)
         return box_run(record, &sheets, asked->source, asked->numbers[0]);
     case CLOSE:
         return box_close(record, &sheets, asked->source);
-    default: /* DRAIN; START never comes here */
+    case DRAIN:
         return box_drain(record, &sheets);
+    default: /* LONE; START never comes here */
+        return box_lone(record, &sheets, asked->source);
     }
 }
 

@@ -5,7 +5,7 @@ import re
 from draws import Draws
 from model import A, B, MOST_ENTRIES, Model
 
-OPEN, ARRIVE, EVICT, RUN, CLOSE, DRAIN = range(6)
+OPEN, ARRIVE, EVICT, RUN, CLOSE, DRAIN, LONE = range(7)
 MOST_WORD = 4294967295
 MOST_LENGTHS = (12288, 12288, 2048, 1536)
 
@@ -13,9 +13,11 @@ MOST_LENGTHS = (12288, 12288, 2048, 1536)
 EDGE_KEYS = [(1, 0), (999, 999), (0, 5), (0, 1000), (1000, 0), (1000, 999), (1, 1000), (999, 1000),
              (4294968, 0), (1, MOST_WORD), (MOST_WORD, MOST_WORD)]
 
-# Places in the record: P M N clock rowsA rowsB closedA closedB, 32 counts, position.
+# Places in the record: P M N clock rowsA rowsB closedA closedB, 32 counts, position, loneA loneB.
 PARTITIONS, MEMORY, MOST_ROWS, CLOCK, ROWS_A, ROWS_B, CLOSED_A, CLOSED_B, COUNTS = range(9)
 POSITION = COUNTS + 32
+LONE_A, LONE_B = POSITION + 1, POSITION + 2
+RECORD_NUMBERS = POSITION + 3
 
 # Places among the sheets.
 SHEET_A, SHEET_B, PROBE, OUTPUT = range(4)
@@ -45,8 +47,8 @@ class Call:
 
 # What a call program may print for a line: this, or an answer, a record and four sheets.
 BAD = b"BAD\n"
-_ANSWERS = re.compile(rb"(?:BAD\n|ANSWER (?:[0-6] [0-9]+|7 [1-7]|7 8 [0-9]+)\n"
-                      rb"SESSION(?: [0-9]+){41}\nA(?: [0-9]+)*\nB(?: [0-9]+)*\n"
+_ANSWERS = re.compile(rb"(?:BAD\n|ANSWER (?:[0-8] [0-9]+|9 [1-7]|9 8 [0-9]+)\n"
+                      rb"SESSION(?: [0-9]+){43}\nA(?: [0-9]+)*\nB(?: [0-9]+)*\n"
                       rb"PROBE(?: [0-9]+)*\nOUT(?: [0-9]+)*\n)*")
 
 
@@ -88,7 +90,7 @@ def words_of(draws, model):
     sheets.append(probe)
     record = [model.partitions, model.memory, model.most_rows, model.clock,
               len(model.rows[A]), len(model.rows[B]), int(model.closed[A]), int(model.closed[B]),
-              *counts, model.position]
+              *counts, model.position, *model.lone_positions]
     return record, sheets
 
 
@@ -98,6 +100,13 @@ def draw_keys(draws):
             for _ in range(draws.pick([1, 1, 2, 3, 4]))]
 
 
+def key_of_row(draws, source, keys, lone_share):
+    """One of the keys, or, as often as the share says, a key of one source alone."""
+    if draws.chance(lone_share):
+        return 5 + source, draws.pick([0, 12])
+    return draws.pick(keys)
+
+
 def partition_of(draws, model, keys):
     if draws.chance(0.15):
         return draws.below(model.partitions)
@@ -105,7 +114,7 @@ def partition_of(draws, model, keys):
     return (car * 1000 + lap) % model.partitions
 
 
-def simulated(draws, keys):
+def simulated(draws, keys, lone_share):
     """A model after some accepted calls."""
     if draws.chance(0.08):
         return with_full_list(draws, keys)
@@ -114,10 +123,11 @@ def simulated(draws, keys):
     weights = {"ARRIVE": 6, "EVICT": draws.pick([0, 1, 3]), "RUN": draws.pick([0, 1, 3])}
     for _ in range(draws.between(0, 3 * model.most_rows)):
         word = draws.weighted(weights)
+        source = draws.below(2)
         if word == "ARRIVE":
-            model.follow((word, draws.below(2), *draws.pick(keys)), 512)
+            model.follow((word, source, *key_of_row(draws, source, keys, lone_share)), 512)
         else:
-            model.follow((word, draws.below(2), partition_of(draws, model, keys)), 512)
+            model.follow((word, source, partition_of(draws, model, keys)), 512)
     return model
 
 
@@ -138,12 +148,17 @@ def with_full_list(draws, keys):
 
 
 def closed_for(draws, model, kind):
-    """Closes the sources that the call wants closed, most often."""
-    if kind == DRAIN:
+    """Closes the sources that the call wants closed, most often; drains and lone
+    calls may have gone before."""
+    if kind in (DRAIN, LONE):
         model.closed = [draws.chance(0.95), draws.chance(0.95)]
         left = model.left()
         if left and all(model.closed) and draws.chance(0.5):
             model.drain(draws.between(1, len(left)))
+        for source in (A, B):
+            left = model.lone_left(source)
+            if all(model.closed) and draws.chance(0.4):
+                model.list_lone(source, draws.between(1, max(len(left) // 2, 1)))
     else:
         model.closed = [draws.chance(0.1), draws.chance(0.1)]
 
@@ -173,11 +188,11 @@ def arguments_for(draws, model, kind, keys):
         if kind == RUN and draws.chance(0.7):
             return [*promising_run(model), 0]
         return [source, partition_of(draws, model, keys), 0]
-    return [source if kind == CLOSE else 0, 0, 0]
+    return [source if kind in (CLOSE, LONE) else 0, 0, 0]
 
 
 def needed(model, kind, arguments):
-    """How many pairs the call would write, given room."""
+    """How many pairs or lone rows the call would write, given room."""
     if kind == ARRIVE:
         source, car, lap = arguments
         return model.arrival_pairs(source, car * 1000 + lap)
@@ -185,24 +200,28 @@ def needed(model, kind, arguments):
         return model.run_pairs(*arguments[:2])
     if kind == DRAIN:
         return len(model.left())
+    if kind == LONE:
+        return len(model.lone_left(arguments[0]))
     return 0
 
 
-def output_for(draws, pairs):
+def output_for(draws, kind, count):
     """An output whose room is 0, 1, exact, one too few, one too many or ample."""
-    room = draws.pick([0, 1, pairs, pairs, pairs - 1, pairs - 1, pairs + 1, 8, 30])
-    length = 3 * max(room, 0) + draws.below(3)
+    room = draws.pick([0, 1, count, count, count - 1, count - 1, count + 1, 8, 30])
+    words = 2 if kind == LONE else 3
+    length = words * max(room, 0) + draws.below(words)
     return [draws.below(100) for _ in range(min(length, MOST_LENGTHS[OUTPUT]))]
 
 
 def built_call(draws):
     keys = draw_keys(draws)
-    model = simulated(draws, keys)
-    kind = draws.weighted({OPEN: 1, ARRIVE: 7, EVICT: 2, RUN: 10, CLOSE: 1, DRAIN: 8})
+    kind = draws.weighted({OPEN: 1, ARRIVE: 7, EVICT: 2, RUN: 10, CLOSE: 1, DRAIN: 8, LONE: 4})
+    lone_share = draws.pick([0.2, 0.5, 0.8] if kind == LONE else [0, 0, 0, 0.2])
+    model = simulated(draws, keys, lone_share)
     closed_for(draws, model, kind)
     arguments = arguments_for(draws, model, kind, keys)
     record, sheets = words_of(draws, model)
-    output = output_for(draws, needed(model, kind, arguments))
+    output = output_for(draws, kind, needed(model, kind, arguments))
     return Call(kind, arguments, record, [*sheets, output])
 
 
@@ -219,6 +238,8 @@ def change_field(draws, call):
         ROWS_B: [0, record[MOST_ROWS] - 1, record[MOST_ROWS], record[MOST_ROWS] + 1],
         CLOSED_A: [1 - record[CLOSED_A]], CLOSED_B: [1 - record[CLOSED_B]],
         COUNTS: [0, 1, 31, 32, 33], POSITION: [0, area // 2, area - 1, area, area + 1],
+        LONE_A: [0, 1, record[ROWS_A] - 1, record[ROWS_A], record[ROWS_A] + 1],
+        LONE_B: [0, 1, record[ROWS_B] - 1, record[ROWS_B], record[ROWS_B] + 1],
     }
     field = draws.pick(list(beyond))
     value = draws.pick(beyond[field])
@@ -250,9 +271,12 @@ def shorten(draws, call):
 
 def wild_call(draws):
     """Small numbers everywhere, whether calls could have left them or not."""
+    kind = draws.weighted({ARRIVE: 3, EVICT: 1, RUN: 5, CLOSE: 0.3, DRAIN: 5, LONE: 2})
     partitions = draws.pick([1, 1, 1, 2, 3])
     most_rows = draws.between(1, 7)
     keys = draws.pick([[7012], [7012, 7013], [1000, 1001, 2000, 0], [0, 1, 999999, MOST_WORD]])
+    if kind == LONE and draws.chance(0.5):
+        keys = list(range(7010, 7020))
     stamps = draws.pick([4, 8, 14])
 
     def stamp():
@@ -262,12 +286,12 @@ def wild_call(draws):
         return [draws.pick(keys), stamp(), draws.pick([0, stamp()])]
 
     rows = [draws.between(0, most_rows), draws.between(0, most_rows)]
-    kind = draws.weighted({ARRIVE: 3, EVICT: 1, RUN: 5, CLOSE: 0.3, DRAIN: 5})
-    closed = [int(draws.chance(0.95 if kind == DRAIN else 0.1)) for _ in (A, B)]
+    closed = [int(draws.chance(0.95 if kind in (DRAIN, LONE) else 0.1)) for _ in (A, B)]
     most_entries = draws.pick([0, 1, 3, 32])
     record = [partitions, draws.pick([1, 2, 4, 8, 1024]), most_rows, draws.below(stamps + 2), *rows,
               *closed, *[draws.between(0, most_entries) for _ in range(32)],
-              draws.between(0, rows[A] * rows[B]) if draws.chance(0.4) else 0]
+              draws.between(0, rows[A] * rows[B]) if draws.chance(0.4) else 0,
+              *[draws.between(0, rows[source]) if draws.chance(0.4) else 0 for source in (A, B)]]
     if draws.chance(0.1):
         record[CLOCK] = draws.between(16380, 16384)
     sheets = [[word for _ in range(most_rows) for word in row()] for _ in (A, B)]
@@ -280,7 +304,7 @@ def wild_call(draws):
     elif kind in (EVICT, RUN):
         arguments = [draws.below(2), key % partitions, 0]
     else:
-        arguments = [draws.below(2) if kind == CLOSE else 0, 0, 0]
+        arguments = [draws.below(2) if kind in (CLOSE, LONE) else 0, 0, 0]
     return Call(kind, arguments, record, sheets)
 
 
@@ -289,7 +313,7 @@ def random_call(draws):
     def number():
         return draws.pick([0, 1, 2, 3, draws.below(40), draws.below(5000), draws.below(MOST_WORD)])
 
-    kind = draws.below(6)
+    kind = draws.below(7)
     arguments = [draws.below(2) if kind not in (OPEN, DRAIN) else 0, 0, 0]
     if kind == OPEN:
         arguments = [number(), number(), number()]
@@ -297,7 +321,7 @@ def random_call(draws):
         arguments[1:] = [number(), number()]
     elif kind in (EVICT, RUN):
         arguments[1] = number()
-    record = [number() for _ in range(POSITION + 1)]
+    record = [number() for _ in range(RECORD_NUMBERS)]
     record[CLOSED_A] %= 2
     record[CLOSED_B] %= 2
     sheets = [[number() for _ in range(min(draws.pick([0, 3, 30, 300]), most))]
@@ -311,7 +335,7 @@ def large_call(draws):
     spread = draws.pick([40, 400, 4000])
     rows = [draws.pick([4095, 4096]), draws.pick([20, 4095])]
     memory_share = draws.pick([0.01, 0.2])
-    kind = draws.pick([ARRIVE, EVICT, RUN, DRAIN])
+    kind = draws.pick([ARRIVE, EVICT, RUN, DRAIN, LONE])
     sheets = []
     for _ in (A, B):
         words = []
@@ -321,15 +345,17 @@ def large_call(draws):
         sheets.append(words)
     sheets.append([draws.below(16384) for _ in range(2048)])
     sheets.append([0] * draws.pick([0, 3, 1535, 1536]))
+    closed = int(kind in (DRAIN, LONE))
     record = [partitions, draws.pick([100, 1024]), 4096, draws.pick([12000, 16384]), *rows,
-              int(kind == DRAIN), int(kind == DRAIN), *[draws.pick([0, 5, 31])] * 32,
-              rows[A] * rows[B] - draws.below(min(rows[A] * rows[B], 400000))]
+              closed, closed, *[draws.pick([0, 5, 31])] * 32,
+              rows[A] * rows[B] - draws.below(min(rows[A] * rows[B], 400000)),
+              *[draws.pick([0, draws.below(count)]) for count in rows]]
     key = 1000 + draws.below(spread)
     arguments = [draws.below(2), *divmod(key, 1000)]
     if kind in (EVICT, RUN):
         arguments = [draws.below(2), key % partitions, 0]
-    elif kind == DRAIN:
-        arguments = [0, 0, 0]
+    elif kind in (DRAIN, LONE):
+        arguments = [draws.below(2) if kind == LONE else 0, 0, 0]
     return Call(kind, arguments, record, sheets)
 
 
@@ -338,8 +364,8 @@ def large_call(draws):
 def spoilt(draws, call):
     """The input with its form broken, or with more after its end."""
     tokens = [b"%d" % token for token in call.tokens()]
-    at = draws.pick([draws.below(4), draws.below(12), draws.below(49), draws.below(len(tokens)),
-                     len(tokens) - 1])
+    at = draws.pick([draws.below(4), draws.below(12), draws.below(8 + RECORD_NUMBERS),
+                     draws.below(len(tokens)), len(tokens) - 1])
     how = draws.weighted({"token": 4, "few": 2, "kind": 1, "source": 1, "closed": 1, "length": 2,
                           "blanks": 2, "zeros": 1, "more": 2, "cut": 1})
     if how == "token":
@@ -348,16 +374,16 @@ def spoilt(draws, call):
     elif how == "few":
         del tokens[draws.pick([0, 1, at, len(tokens) - 1]):]
     elif how == "kind":
-        tokens[0] = draws.pick([b"6", b"7", b"4294967295"])
+        tokens[0] = draws.pick([b"7", b"8", b"4294967295"])
     elif how == "source":
-        tokens[0] = draws.pick([b"1", b"2", b"3", b"4"])
+        tokens[0] = draws.pick([b"1", b"2", b"3", b"4", b"6"])
         tokens[1] = draws.pick([b"2", b"4294967295"])
     elif how == "closed":
         tokens[4 + draws.pick([CLOSED_A, CLOSED_B])] = draws.pick([b"2", b"4294967295"])
     elif how == "length":
         sheet = draws.below(4)
         beyond = MOST_LENGTHS[sheet] + 1
-        tokens[4 + POSITION + 1 + sheet] = draws.pick([b"%d" % beyond, b"4294967295"])
+        tokens[4 + RECORD_NUMBERS + sheet] = draws.pick([b"%d" % beyond, b"4294967295"])
         tokens += [b"0"] * beyond
     elif how == "zeros":
         tokens[at] = tokens[at].rjust(draws.pick([10, 11, 30]), b"0")
@@ -376,7 +402,7 @@ class CallCase:
 
     def __init__(self, seed, number):
         draws = Draws("call", seed, number)
-        kind = draws.weighted({"built": 40, "field": 14, "word": 14, "short": 5, "wild": 25,
+        kind = draws.weighted({"built": 40, "field": 14, "word": 14, "short": 5, "wild": 30,
                                "random": 1, "large": 0.3, "spoilt": 6})
         if kind == "wild":
             self.call = wild_call(draws)

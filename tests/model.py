@@ -1,7 +1,7 @@
 """A model of the box on Python lists.
 
 It steers the drawing of cases: which rooms are exact, when a list is full,
-how many drains are left. No program is judged by it."""
+how many drains are left, which rows are lone. No program is judged by it."""
 
 A, B = 0, 1
 MOST_ENTRIES = 32
@@ -21,6 +21,7 @@ class Model:
         self.closed = [False, False]
         self.lists = [[[] for _ in range(partitions)] for _ in (A, B)]  # of (DTS-last, ProbeTS)
         self.position = 0
+        self.lone_positions = [0, 0]
 
     def portion(self, source, partition):
         return [row for row in self.rows[source] if row[0] % self.partitions == partition]
@@ -102,6 +103,19 @@ class Model:
         else:
             self.position = len(self.rows[A]) * len(self.rows[B])
 
+    def lone_left(self, source):
+        """The rows that lone calls have still to list."""
+        others = {row[0] for row in self.rows[1 - source]}
+        return [number for number, row in enumerate(self.rows[source])
+                if number >= self.lone_positions[source] and row[0] not in others]
+
+    def list_lone(self, source, room):
+        left = self.lone_left(source)
+        if len(left) > room:
+            self.lone_positions[source] = left[room - 1] + 1
+        else:
+            self.lone_positions[source] = len(self.rows[source])
+
     def follow(self, command, room):
         """Does what an accepted call does; a refused one does nothing."""
         word, *numbers = command
@@ -116,6 +130,9 @@ class Model:
         elif word == "DRAIN":
             if all(self.closed) and numbers[0] > 0:
                 self.drain(numbers[0])
+        elif word == "LONE":
+            if all(self.closed) and numbers[1] > 0:
+                self.list_lone(*numbers)
         elif numbers[1] < self.partitions and not all(self.closed):
             if word == "EVICT":
                 self.flush(*numbers)

@@ -24,6 +24,7 @@ _FORMS = [
         ("RUN", rb"RUN", [_SOURCE, _NUMBER]),
         ("CLOSE", rb"CLOSE", [_SOURCE]),
         ("DRAIN", rb"DRAIN", [_NUMBER]),
+        ("LONE", rb"LONE", [_SOURCE, _NUMBER]),
     ]
 ]
 
@@ -38,7 +39,7 @@ def read_line(line):
         if found:
             numbers = [b"AB".index(part) if part in (b"A", b"B") else int(part)
                        for part in found.groups()]
-            if form == "DRAIN" and numbers[0] > OUTPUT_ROOM:
+            if form in ("DRAIN", "LONE") and numbers[-1] > OUTPUT_ROOM:
                 return None
             return (form, *numbers)
     return None
@@ -58,7 +59,8 @@ class Unsound(Exception):
 
 
 class Watcher:
-    """Keeps its own record of accepted rows and written pairs."""
+    """Keeps its own record of accepted rows, of written pairs, and of how many
+    lone rows were listed."""
 
     def __init__(self):
         self.started = False
@@ -67,13 +69,14 @@ class Watcher:
     def begin(self):
         self.rows = ([], [])
         self.written = set()
+        self.listed = [0, 0]
 
-    def see(self, line, pairs, answer):
-        """One input line, the pairs printed for it, and its answer line split
-        into fields."""
+    def see(self, line, pairs, lone_rows, answer):
+        """One input line, the pairs and the lone rows printed for it, and its
+        answer line split into fields."""
         command = read_line(line)
         if answer[0] == b"NO":
-            self.see_refusal(command, pairs, answer)
+            self.see_refusal(command, pairs + lone_rows, answer)
             return
         if command is None or not (self.started or command[0] == "START"):
             raise Unsound("accepted, but should be refused")
@@ -84,6 +87,11 @@ class Watcher:
         elif word == "ARRIVE":
             source, car, lap = numbers
             self.rows[source].append(car * 1000 + lap)
+        if word == "LONE":
+            self.see_lone(*numbers, pairs, lone_rows, answer)
+            return
+        if lone_rows:
+            raise Unsound("lone rows that were not asked for")
         if (answer[0] == b"DONE") != (word == "DRAIN" and self.left() <= numbers[0]):
             raise Unsound("DONE at the wrong place")
         if word == "DRAIN" and len(pairs) != min(numbers[0], self.left()):
@@ -93,9 +101,9 @@ class Watcher:
         for pair in pairs:
             self.see_pair(*pair)
 
-    def see_refusal(self, command, pairs, answer):
-        if pairs:
-            raise Unsound("pairs before a refusal")
+    def see_refusal(self, command, printed, answer):
+        if printed:
+            raise Unsound("pairs or lone rows before a refusal")
         if (answer[1] == b"9") != (command is None):
             raise Unsound("NO 9 is for bad lines, and for no others")
         unstarted = command is not None and command[0] != "START" and not self.started
@@ -117,8 +125,29 @@ class Watcher:
         keys_b = Counter(self.rows[B])
         return sum(keys_b[key] for key in self.rows[A]) - len(self.written)
 
+    def see_lone(self, source, room, pairs, lone_rows, answer):
+        if pairs:
+            raise Unsound("pairs in a list of lone rows")
+        left = self.lone_left(source)
+        if (answer[0] == b"DONE") != (len(left) <= room):
+            raise Unsound("DONE at the wrong place")
+        if lone_rows != left[:room]:
+            raise Unsound("a lone call lists the next rows without a partner, min(room, rows left)")
+        if int(answer[1]) != len(lone_rows):
+            raise Unsound("the answer does not count the lone rows")
+        self.listed[source] += len(lone_rows)
+
+    def lone_left(self, source):
+        """The rows without a partner that are not yet listed, with their keys.
+        Each list so far had the first of them, so they are those after it."""
+        others = set(self.rows[1 - source])
+        lone_rows = [(number, key) for number, key in enumerate(self.rows[source])
+                     if key not in others]
+        return lone_rows[self.listed[source]:]
+
 
 _PAIR = re.compile(rb"PAIR ([0-9]+) ([0-9]+) ([0-9]+)")
+_LONE = re.compile(rb"LONE ([0-9]+) ([0-9]+)")
 _ANSWER = re.compile(rb"OK [0-9]+|DONE [0-9]+|NO (?:[1-79]|10|8 [0-9]+)")
 
 
@@ -129,18 +158,21 @@ def unsound(text, printed):
     output = iter(split_lines(printed))
     watcher = Watcher()
     for number, line in enumerate(split_lines(text), 1):
-        pairs = []
+        pairs, lone_rows = [], []
         for shown in output:
-            found = _PAIR.fullmatch(shown)
-            if not found:
+            pair, lone = _PAIR.fullmatch(shown), _LONE.fullmatch(shown)
+            if pair:
+                pairs.append(tuple(int(part) for part in pair.groups()))
+            elif lone:
+                lone_rows.append(tuple(int(part) for part in lone.groups()))
+            else:
                 break
-            pairs.append(tuple(int(part) for part in found.groups()))
         else:
             return f"line {number}: no answer"
         if not _ANSWER.fullmatch(shown):
             return f"line {number}: an answer of no known form: {shown[:60]!r}"
         try:
-            watcher.see(line, pairs, shown.split(b" "))
+            watcher.see(line, pairs, lone_rows, shown.split(b" "))
         except Unsound as why:
             return f"line {number}: {why}"
     if next(output, None) is not None:
@@ -156,7 +188,8 @@ ODD_BYTES = [b"\r", b"\0", b"\x0b", b"\x0c", b"\x1a", b"\x7f", b"\xa0", b"\xff",
 EMPTY_LINES = [b"", b" ", b"\t", b" \t ", b"\r", b"\0", b",", b",,", b",,,", b" , "]
 ODD_WORDS = [b"", b"a", b"b", b"C", b"AA", b"AB", b"start", b"Start", b"STAR", b"STARTS",
              b"EVIC", b"EVICTS", b"Evict", b"RUNS", b"RU", b"run", b"CLOSED", b"CLOS", b"DRAINS",
-             b"DRAI", b"drain", b"QUIT", b"0", b"\xc3\x84", b"A B", b"A\0"]
+             b"DRAI", b"drain", b"LONES", b"LON", b"lone", b"QUIT", b"0", b"\xc3\x84", b"A B",
+             b"A\0"]
 ODD_NUMBERS = [b"+1", b"-1", b"-0", b"1.0", b"0x1", b"1 2", b"1\t2", b"1e1", b"A", b"\xb2",
                b"1\0", b"1\r"]
 
@@ -245,6 +278,10 @@ class Session:
         self.lines = []
         self.model = None
         self.keys = [self.draw_key() for _ in range(draws.pick([1, 1, 2, 2, 3, 4, 6]))]
+        # Keys of one source alone, and how many of its rows have one of them.
+        self.lone_keys = [[(5 + source, draws.pick([0, 12, 999])) for _ in range(2)]
+                          for source in (A, B)]
+        self.lone_share = draws.pick([0, 0, 0.2, 0.5])
         self.dress = draws.pick([0, 0, 0, 0.3])
         self.odd = draws.pick([0, 0, 0.05, 0.4])
         self.weights = {
@@ -256,6 +293,7 @@ class Session:
             "restart": draws.pick([0, 0, 0, 0.5]),
             "close": draws.pick([0, 0, 0.5]),
             "drain": draws.pick([0, 0.5]),
+            "lone": draws.pick([0, 0.5]),
         }
 
     def draw_key(self):
@@ -299,7 +337,7 @@ class Session:
     def step(self):
         what = self.draws.weighted(self.weights)
         if what == "arrive":
-            self.say(self.source(), *self.draws.pick(self.keys))
+            self.arrive()
         elif what == "evict":
             self.say(b"EVICT", self.source(), self.partition())
         elif what == "run":
@@ -312,8 +350,15 @@ class Session:
             self.start()
         elif what == "close":
             self.say(b"CLOSE", self.source())
-        else:
+        elif what == "drain":
             self.drain()
+        else:
+            self.lone(self.draws.below(2))
+
+    def arrive(self):
+        source = self.draws.below(2)
+        keys = self.lone_keys[source] if self.draws.chance(self.lone_share) else self.keys
+        self.say(LETTER[source], *self.draws.pick(keys))
 
     def refused(self):
         """A good line that the box refuses, most often."""
@@ -325,25 +370,39 @@ class Session:
             (b"EVICT", self.source(), partition), (b"RUN", self.source(), partition),
             (b"START", 0, 1, 1), (b"START", 17, 1, 1), (b"START", 1, 0, 1), (b"START", 1, 1025, 1),
             (b"START", 1, 1, 0), (b"START", 1, 1, 1025), (b"START", 1, 1, 4096),
-            (b"START", 9999, 9999, 9999), (b"DRAIN", 0), (b"DRAIN", 1), (b"DRAIN", 512)]))
+            (b"START", 9999, 9999, 9999), (b"DRAIN", 0), (b"DRAIN", 1), (b"DRAIN", 512),
+            (b"LONE", self.source(), 0), (b"LONE", self.source(), 512)]))
+
+    def room_for(self, left):
+        """A room for so many pairs or rows: none, a small one, one that is
+        exact or nearly so, half of it, or the largest."""
+        room = self.draws.pick([0, 1, 1, 2, 3, left - 1, left, left, left + 1, left // 2,
+                                (left + 1) // 2, OUTPUT_ROOM])
+        return min(max(room, 0), OUTPUT_ROOM)
 
     def drain(self):
         left = len(self.model.left()) if all(self.model.closed) else 3
-        room = self.draws.pick([0, 1, 1, 2, 3, left - 1, left, left, left + 1, left // 2,
-                                (left + 1) // 2, OUTPUT_ROOM])
-        self.say(b"DRAIN", min(max(room, 0), OUTPUT_ROOM))
+        self.say(b"DRAIN", self.room_for(left))
+
+    def lone(self, source):
+        left = len(self.model.lone_left(source)) if all(self.model.closed) else 2
+        self.say(b"LONE", LETTER[source], self.room_for(max(left, 1)))
 
     def steps(self, most):
         for _ in range(self.draws.between(0, most)):
             self.step()
 
     def finish(self):
-        """Closes both sources, drains to the end and beyond."""
+        """Closes both sources, drains to the end and beyond, and lists lone rows
+        before, between and after the drains."""
         order = self.draws.pick([LETTER, LETTER[::-1]])
         self.say(b"CLOSE", order[0])
         self.steps(self.draws.pick([0, 3, 8]))
         self.say(b"CLOSE", order[1])
         self.steps(self.draws.pick([0, 0, 4]))
+        listing = self.draws.pick([0, 0, 0.2, 0.5])
+        if self.draws.chance(listing):
+            self.lone(self.draws.below(2))
         left = len(self.model.left())
         room = min(self.draws.pick([1, 2, 3, 5, max(left - 1, 1), max(left, 1), OUTPUT_ROOM]),
                    OUTPUT_ROOM)
@@ -351,6 +410,20 @@ class Session:
             self.say(b"DRAIN", room)
             if self.draws.chance(0.1):
                 self.step()
+            if self.draws.chance(listing):
+                self.lone(self.draws.below(2))
+        if listing:
+            self.list_all(self.draws.below(2))
+
+    def list_all(self, source):
+        """Lists the lone rows of a source to the end and beyond."""
+        left = len(self.model.lone_left(source))
+        room = min(self.draws.pick([1, 2, 3, max(left - 1, 1), max(left, 1), left + 1]),
+                   OUTPUT_ROOM)
+        for _ in range(min(-(-left // room), 20) + self.draws.below(3)):
+            self.say(b"LONE", LETTER[source], room)
+            if self.draws.chance(0.2):
+                self.lone(1 - source)
 
     # The kinds of sessions.
 
@@ -411,7 +484,8 @@ class Session:
             if draws.chance(0.02):
                 self.lines.append(b"%s,%d,%d" % (LETTER[1 - own], 1 + number % 37, number % 5))
         self.lines += [b"EVICT,A,3", b"RUN,A,3", b"RUN,B,3", b"CLOSE,A", b"CLOSE,B",
-                       b"DRAIN,%d" % draws.pick([1, 40]), b"DRAIN,512"]
+                       b"DRAIN,%d" % draws.pick([1, 40]), b"LONE,A,512", b"LONE,B,512",
+                       b"DRAIN,512", b"LONE,A,%d" % draws.pick([1, 40]), b"LONE,B,512"]
 
     def odd_lines(self):
         self.odd = 0.7
@@ -440,7 +514,7 @@ class SessionCase:
         if kind != "full_sheet" and draws.chance(0.85):
             session.finish()
         if self.alone and draws.chance(0.5):
-            session.put(odd_line(draws, draws.pick([b"A,7,12", b"DRAIN,1"])))
+            session.put(odd_line(draws, draws.pick([b"A,7,12", b"DRAIN,1", b"LONE,A,1"])))
         self.text = b"\n".join(session.lines)
         if not self.alone or draws.chance(0.3):
             self.text += b"\n"
@@ -450,6 +524,6 @@ class SessionCase:
         draws = session.draws
         for _ in range(draws.between(1, 6)):
             line = draws.pick([b"A,7,12", b"B,0,0", b"EVICT,A,0", b"RUN,B,99", b"CLOSE,A",
-                               b"DRAIN,0", b"DRAIN,512", b"DRAIN,513", b"START,0,1,1",
-                               b"START,1,1,1025"])
+                               b"DRAIN,0", b"DRAIN,512", b"DRAIN,513", b"LONE,A,0", b"LONE,B,512",
+                               b"LONE,B,513", b"START,0,1,1", b"START,1,1,1025"])
             session.put(odd_line(draws, line) if draws.chance(0.3) else line)

@@ -107,8 +107,9 @@ def cut_sheets(call, fails):
 
 
 def lower_numbers(call, fails):
+    """The last numbers first: positions are bounded by rows, and rows by N."""
     for part in ("arguments", "record"):
-        for at in range(len(getattr(call, part))):
+        for at in reversed(range(len(getattr(call, part)))):
             value = getattr(call, part)[at]
             for smaller in (0, 1, value // 2, value - 1):
                 if 0 <= smaller < value and fails(with_number(call, part, at, smaller)):

@@ -1,6 +1,6 @@
 // A case: what its numbers ask for, and the answer to it. In their order the numbers are the kind of the call and its three
-// arguments; the record, as P, M, N, clock, rows of A and of B, closed A and B, 32 entry counts, position; the lengths of
-// the sheets A, B, probe and output; and then the words of these sheets.
+// arguments; the record, as P, M, N, clock, rows of A and of B, closed A and B, 32 entry counts, position, lone positions
+// of A and B; the lengths of the sheets A, B, probe and output; and then the words of these sheets.
 use crate::printing::TEXT;
 use crate::printing::put_answer;
 use crate::printing::put_session;
@@ -10,6 +10,7 @@ use calls::opening::open;
 use calls::performing::perform;
 use calls::types::Call;
 use calls::types::Feed;
+use calls::types::Places;
 use calls::types::Reply;
 use calls::types::Session;
 use stamps::Message;
@@ -28,9 +29,11 @@ const COUNTS: usize = 12;
 
 const POSITION: usize = 44;
 
-const SIZES: usize = 45;
+const LONE: usize = 45;
 
-const SHEETS: usize = 49;
+const SIZES: usize = 47;
+
+const SHEETS: usize = 51;
 
 pub const ROW_WORDS: usize = 12288;
 
@@ -55,6 +58,7 @@ fn sourced(kind: u32, source: Source, y: u32, z: u32) -> Asked {
         2 => Asked::Perform(Call::Evict(source, y)),
         3 => Asked::Perform(Call::Run(source, y)),
         4 => Asked::Perform(Call::Close(source)),
+        6 => Asked::Perform(Call::Lone(source)),
         _ => Asked::Nothing,
     }
 }
@@ -75,7 +79,7 @@ fn asked_of(kind: u32, x: u32, y: u32, z: u32) -> Asked {
 }
 
 fn counts_of(words: &[u32]) -> [u32; 32]
-    requires { ⌜ 49 ≤ length (now words) ⌝ }
+    requires { ⌜ 51 ≤ length (now words) ⌝ }
 {
     let mut counts = [0; 32];
     let mut i = 0;
@@ -87,7 +91,7 @@ fn counts_of(words: &[u32]) -> [u32; 32]
 }
 
 fn session_of(words: &[u32]) -> Session
-    requires { ⌜ 49 ≤ length (now words) ⌝ }
+    requires { ⌜ 51 ≤ length (now words) ⌝ }
 {
     let a = Feed {
         rows: words[ROWS],
@@ -98,6 +102,10 @@ fn session_of(words: &[u32]) -> Session
         closed: words[CLOSED + 1] == 1,
     };
     let counts = counts_of(words);
+    let lone = Places {
+        a: words[LONE],
+        b: words[LONE + 1],
+    };
     Session {
         parts: words[RECORD],
         slots: words[RECORD + 1],
@@ -107,6 +115,7 @@ fn session_of(words: &[u32]) -> Session
         b,
         counts,
         next: words[POSITION],
+        lone,
     }
 }
 
@@ -143,7 +152,7 @@ fn answer_call(
     text: &mut [u8; TEXT],
     used: usize,
 ) -> usize
-    requires { ⌜ 49 ≤ length (now words) ⌝ }
+    requires { ⌜ 51 ≤ length (now words) ⌝ }
 {
     if 1 < words[CLOSED] {
         return put_bad(text, used);
@@ -186,7 +195,7 @@ fn answer_sheets(
     text: &mut [u8; TEXT],
     used: usize,
 ) -> usize
-    requires { ⌜ 49 ≤ length (now words) ⌝ }
+    requires { ⌜ 51 ≤ length (now words) ⌝ }
 {
     let a_end = SHEETS + a.len();
     let b_end = a_end + b.len();

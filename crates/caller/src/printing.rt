@@ -74,7 +74,7 @@ fn put_kind(text: &mut [u8; TEXT], used: usize, kind: u32, n: u32) -> usize {
 // A refusal: the number of its kind, its code, and the count that it needs, where it names one.
 fn put_refusal(text: &mut [u8; TEXT], used: usize, why: Why) -> usize {
     let word = put_text(text, used, b"ANSWER");
-    let kind = put_number(text, word, 7);
+    let kind = put_number(text, word, 9);
     let code = put_number(text, kind, code_of(why));
     if let Why::RoomShort(n) = why {
         let need = put_number(text, code, n);
@@ -92,6 +92,8 @@ pub fn put_answer(text: &mut [u8; TEXT], used: usize, answer: Answer) -> usize {
         Answer::Shut => put_kind(text, used, 4, 0),
         Answer::More(n) => put_kind(text, used, 5, n),
         Answer::Done(n) => put_kind(text, used, 6, n),
+        Answer::MoreLone(n) => put_kind(text, used, 7, n),
+        Answer::DoneLone(n) => put_kind(text, used, 8, n),
         Answer::Refused(why) => put_refusal(text, used, why),
     }
 }
@@ -113,8 +115,10 @@ pub fn put_session(text: &mut [u8; TEXT], used: usize, session: Session) -> usiz
     let b_closed = put_flag(text, a_closed, b.closed);
     let counts = session.counts;
     let entries = put_numbers(text, b_closed, &counts);
-    let next = put_number(text, entries, session.next);
-    put_byte(text, next, b'\n')
+    let lone = session.lone;
+    let places = [session.next, lone.a, lone.b];
+    let last = put_numbers(text, entries, &places);
+    put_byte(text, last, b'\n')
 }
 
 pub fn put_sheet(text: &mut [u8; TEXT], used: usize, name: &[u8], words: &[u32]) -> usize {

@@ -14,20 +14,20 @@ use Rattle.stamps.specs.Counting.{values}
 use Rattle.stamps.specs.Counting.Laws.{values-cong}
 use Rattle.stamps.specs.Keys.{itemOf}
 use Rattle.stamps.specs.Sources.{other}
-use Rattle.sheets.specs.declared.layout.Told.{Told}
-use Rattle.sheets.specs.Layout.{roomOf, rowsNeed}
+use Rattle.sheets.specs.Layout.{Told, rowsNeed}
 use Rattle.sheets.specs.Pairs.{Side}
 use Rattle.sheets.specs.Rows.{flushed}
 use Rattle.sheets.proofs.Changes.{items, newRow, flushedSide, storedSide}
 use Rattle.sheets.proofs.Laws.{flushed-item}
 use Rattle.calls.specs.Answers.{refused}
-use Rattle.calls.specs.Calls.{after, arrives, joins, evicts, tries, runs, drains, effect, settle, afterCall}
-use Rattle.calls.specs.Demand3.{Lent, run, offered, accepted, itemsOf}
-use Rattle.calls.specs.Refusals.{verdict, roomFor, makeRoom, idle, checks}
+use Rattle.calls.specs.Calls.{after, arrives, joins, evicts, tries, runs, drains, lists, effect, settle, afterCall}
+use Rattle.calls.specs.Rounds.{Lent}
+use Rattle.calls.specs.Demand3.{run, offered, accepted, itemsOf}
+use Rattle.calls.specs.Refusals.{verdict, roomFor, makeRoom, idle, roomIn, checks}
 use Rattle.calls.specs.Work.{same}
-use Rattle.calls.specs.World.{World, countOf, sheetOf, sideOf, flush, store, note, shut, move}
+use Rattle.calls.specs.World.{World, countOf, sheetOf, sideOf, flush, store, note, shut, move, pass}
 use Rattle.calls.specs.declared.types.Call.{Call}
-use Rattle.calls.specs.declared.types.Call.the-variants.{Arrive, Evict, Run, Close, Drain}
+use Rattle.calls.specs.declared.types.Call.the-variants.{Arrive, Evict, Run, Close, Drain, Lone}
 use Rattle.calls.specs.declared.types.Answer.the-variants.{Ran}
 use Rattle.calls.specs.declared.refusals.Verdict.{Verdict}
 use Rattle.calls.specs.declared.refusals.Verdict.the-variants.{Good, No}
@@ -35,7 +35,7 @@ use Rattle.calls.specs.declared.arriving.Room.{Room}
 use Rattle.calls.specs.declared.arriving.Room.the-variants.{Enough, Flush}
 use Rattle.calls.proofs.Fitting.{rows-fit}
 use Rattle.calls.proofs.Laws.{accepts}
-use Rattle.calls.proofs.Seen.{both-sources, flush-seen, store-seen}
+use Rattle.calls.proofs.Seen.{both-sources, same-own, same-facing, flush-seen, store-seen}
 use Rattle.calls.proofs.Steps.{Sits, sits-call, row-space}
 
 -- the items of a side, in their order
@@ -59,14 +59,6 @@ store-items s item w h = let n = store-seen s item w h in
     both-sources (λ u. itemsOf (store s item w) u ≡ itemsOf w u ++ cond (same s u) (item ∷ []) []) s
     (ap sideItems (n .own) ∙ items-stored item (w .session .clock) (sideOf w s) ∙ ap (λ (v : Bool). itemsOf w s ++ cond v (item ∷ []) []) (sym (same-own s)))
     (ap sideItems (n .facing) ∙ sym (append-nil (itemsOf w (other s))) ∙ ap (λ (v : Bool). itemsOf w (other s) ++ cond v (item ∷ []) []) (sym (same-facing s)))
-  where
-    same-own : (s : Source) → same s s ≡ true
-    same-own A = refl
-    same-own B = refl
-
-    same-facing : (s : Source) → same s (other s) ≡ false
-    same-facing A = refl
-    same-facing B = refl
 
 module _ (w : World) (l : List Told) (o : List ℕ) (g : Sits w l) (u : Source) where
   -- the items after a call
@@ -96,19 +88,20 @@ module _ (w : World) (l : List Told) (o : List ℕ) (g : Sits w l) (u : Source) 
       go A = both-sources (λ u. itemsOf (shut A w) u ≡ itemsOf w u) A refl refl u
       go B = both-sources (λ u. itemsOf (shut B w) u ≡ itemsOf w u) B refl refl u
 
-  effect-items : (c : Call) → verdict (checks w c (roomOf (length o))) ≡ Good → Adds (effect w o c .world) (offered u c)
-  unfolding effect arrives joins evicts drains move
+  effect-items : (c : Call) → verdict (checks w c (roomIn c (length o))) ≡ Good → Adds (effect w o c .world) (offered u c)
+  unfolding effect arrives joins evicts drains move lists pass
   effect-items (Arrive s m) h = store-items s (itemOf m) (makeRoom (roomFor w) w) (row-space w l o g s m h) u ∙ ap (λ (k : List Item). k ++ cond (same s u) (itemOf m ∷ []) []) (room-items (roomFor w))
   effect-items (Evict s q) h = unchanged (flush s q w) (flush-items s q w (rows-fit w (g .fit) s) u)
   effect-items (Run s q) h = run-items s q
   effect-items (Close s) h = shut-items s
   effect-items Drain h = unchanged (drains w o .world) refl
+  effect-items (Lone s) h = unchanged (lists s w o .world) refl
 
   call-items : (c : Call) → Adds (afterCall w o c .world) (cond (refused (afterCall w o c .answer)) [] (offered u c))
   unfolding afterCall
-  call-items c = go (verdict (checks w c (roomOf (length o)))) refl
+  call-items c = go (verdict (checks w c (roomIn c (length o)))) refl
     where
-      go : (v : Verdict) → verdict (checks w c (roomOf (length o))) ≡ v → Adds (settle v w o (effect w o c) .world) (cond (refused (settle v w o (effect w o c) .answer)) [] (offered u c))
+      go : (v : Verdict) → verdict (checks w c (roomIn c (length o))) ≡ v → Adds (settle v w o (effect w o c) .world) (cond (refused (settle v w o (effect w o c) .answer)) [] (offered u c))
       go Good e = effect-items c e ∙ ap (λ (v : Bool). itemsOf w u ++ cond v [] (offered u c)) (sym (accepts w o c))
       go (No y) e = unchanged w refl
 

@@ -17,7 +17,7 @@ use Rattle.stamps.specs.Counting.{tally}
 use Rattle.stamps.specs.Counting.Laws.{tally-le, tally-cong}
 use Rattle.stamps.specs.Keys.{itemOf}
 use Rattle.stamps.specs.Sources.{other}
-use Rattle.sheets.specs.Layout.{rowsNeed, pairsNeed, roomOf, rowAt, putRow}
+use Rattle.sheets.specs.Layout.{rowsNeed, roomOf, rowAt, putRow}
 use Rattle.sheets.specs.Pairs.{met, tellAll, putFrom}
 use Rattle.sheets.specs.Rows.{hot, flushed, lay}
 use Rattle.sheets.proofs.Laws.{length-lay, rows-lay, length-arrival}

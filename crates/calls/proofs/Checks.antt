@@ -49,14 +49,16 @@ pub fits-are : (t : Session) (a b probe : ℕ) → sessionFits t a b probe ≡ t
 unfolding sessionFits
 fits-are t a b probe h =
     let p = both (sizesFit (t .parts) (t .slots) (t .limit) a b probe) _ h in
-    let q = both (numbersFit (t .limit) (t .clock) (t .a .rows) (t .b .rows) (t .next)) (countsFit (t .counts) (2 * t .parts)) (p .1) in
-    let e : Each (numberTests (t .limit) (t .clock) (t .a .rows) (t .b .rows) (t .next)) = each (numberTests (t .limit) (t .clock) (t .a .rows) (t .b .rows) (t .next)) (q .0) in
+    let q = both (numbersFit (t .limit) (t .clock) (t .a .rows) (t .b .rows) (t .next) (t .lone)) (countsFit (t .counts) (2 * t .parts)) (p .1) in
+    let e : Each (numberTests (t .limit) (t .clock) (t .a .rows) (t .b .rows) (t .next) (t .lone)) = each (numberTests (t .limit) (t .clock) (t .a .rows) (t .b .rows) (t .next) (t .lone)) (q .0) in
     record {
       sizes = sizes-are _ _ _ _ _ _ (p .0);
       a-few = omega (arith, tests);
       b-few = omega (arith, tests);
       clock = omega (arith, tests);
       next = omega (arith, tests);
+      a-lone = omega (arith, tests);
+      b-lone = omega (arith, tests);
       short = counts-are (t .counts) (2 * t .parts) (q .1);
     }
 
@@ -66,12 +68,12 @@ module _ (t : Session) (a b probe : ℕ) where
   unfolding sessionFits
   session-sizes e = rw e
 
-  pub session-numbers : sizesFit (t .parts) (t .slots) (t .limit) a b probe ≡ true → numbersFit (t .limit) (t .clock) (t .a .rows) (t .b .rows) (t .next) ≡ false
+  pub session-numbers : sizesFit (t .parts) (t .slots) (t .limit) a b probe ≡ true → numbersFit (t .limit) (t .clock) (t .a .rows) (t .b .rows) (t .next) (t .lone) ≡ false
       → false ≡ sessionFits t a b probe
   unfolding sessionFits
   session-numbers e f = rw (e, f)
 
-  pub session-good : (r : Bool) → sizesFit (t .parts) (t .slots) (t .limit) a b probe ≡ true → numbersFit (t .limit) (t .clock) (t .a .rows) (t .b .rows) (t .next) ≡ true
+  pub session-good : (r : Bool) → sizesFit (t .parts) (t .slots) (t .limit) a b probe ≡ true → numbersFit (t .limit) (t .clock) (t .a .rows) (t .b .rows) (t .next) (t .lone) ≡ true
       → r ≡ countsFit (t .counts) (2 * t .parts) → r ≡ sessionFits t a b probe
   unfolding sessionFits
   session-good r e f g = rw (e, f) g

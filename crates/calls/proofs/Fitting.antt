@@ -4,6 +4,7 @@ use mathlib.Core.Path.{_≡_, refl, sym, ap, _∙_, subst}
 use mathlib.Core.Bool.{Bool, true, false}
 use mathlib.Core.List.{List}
 use Prim.Native.Nat.{ℕ, zero, suc, _+_, _*_, _≤_, _<_}
+use native.Mathlib.Nat.{le-refl}
 use native.Mathlib.Omega.{arith}
 use lib.Dec.{eqb}
 use lib.ListN.{length, getD, set}
@@ -20,7 +21,8 @@ use Rattle.sheets.proofs.Changes.{memoryOf, flush-memory, store-memory}
 use Rattle.sheets.proofs.Laws.{length-list}
 use Rattle.calls.specs.Refusals.{countsFit, sessionFits}
 use Rattle.calls.specs.Work.{Sizes}
-use Rattle.calls.specs.World.{World, countOf, sheetOf, sideOf, flush, store, note, shut, move}
+use Rattle.calls.specs.World.{World, pick, countOf, sheetOf, placeOf, sideOf, flush, store, note, shut, move, pass}
+use Rattle.calls.specs.declared.types.Places.{Places}
 use Rattle.calls.proofs.Seen.{both-sources, Extent, extent, Seen, flush-seen, store-seen, Listable, note-seen}
 
 -- the sizes of a box are in range, and its sheets are long enough
@@ -41,6 +43,7 @@ pub record Fit (w : World) : Type 0 where
   pub few : (s : Source) → countOf w s ≤ w .session .limit
   pub clock : w .session .clock + sum (λ s. memoryOf (sideOf w s)) ≤ 2 * sum (countOf w)
   pub next : w .session .next ≤ countOf w A * countOf w B
+  pub lone : (s : Source) → placeOf w s ≤ countOf w s
   pub counted : length (w .session .counts) ≡ 32
   pub short : (k : ℕ) → k < 2 * w .session .parts → getD (w .session .counts) k 0 ≤ 32
 
@@ -56,10 +59,10 @@ pub row-fits : (w : World) → Fit w → (s : Source) → countOf w s < w .sessi
 row-fits w f s h = omega (arith, few-rows w f s)
 
 -- a change of one source before the first drain
-fit-change : (s : Source) (w w′ : World) (c : ℕ) (d : Side) → Seen s w w′ c d → Fit w → w .session .next ≡ 0 → d .count ≤ w .session .limit
+fit-change : (s : Source) (w w′ : World) (c : ℕ) (d : Side) → Seen s w w′ c d → Fit w → w .session .next ≡ 0 → countOf w s ≤ d .count → d .count ≤ w .session .limit
     → c + memoryOf d + 2 * countOf w s ≤ w .session .clock + memoryOf (sideOf w s) + 2 * d .count
     → ((k : ℕ) → k < 2 * w .session .parts → getD (w′ .session .counts) k 0 ≤ 32) → Fit w′
-fit-change s w w′ c d n f z few clock short = let e = n .same-extent in let own = n .own in let facing = n .facing in
+fit-change s w w′ c d n f z grows few clock short = let e = n .same-extent in let own = n .own in let facing = n .facing in
     record {
       sizes = subst SizesIn (sym e) (f .sizes);
       few = both-sources (λ u. countOf w′ u ≤ w′ .session .limit) s (omega (arith, few, ap (λ (x : Side). x .count) own, ap (λ (x : Extent). x .limit) e))
@@ -79,13 +82,18 @@ fit-change s w w′ c d n f z few clock short = let e = n .same-extent in let ow
         sum-from s (countOf w′),
       );
       next = omega (arith, n .same-next);
+      lone = both-sources (λ u. placeOf w′ u ≤ countOf w′ u) s (omega (arith, f .lone s, grows, place s, ap (λ (x : Side). x .count) own))
+          (omega (arith, f .lone (other s), place (other s), ap (λ (x : Side). x .count) facing));
       counted = n .same-counted ∙ f .counted;
       short = λ k h. short k (omega (arith, ap (λ (x : Extent). x .parts) e));
     }
+  where
+    place : (u : Source) → placeOf w′ u ≡ placeOf w u
+    place u = ap (λ (p : Places). pick u (p .a) (p .b)) (n .same-lone)
 
 pub fit-flush : (s : Source) (q : ℕ) (w : World) → Fit w → w .session .next ≡ 0 → Fit (flush s q w)
 unfolding flush
-fit-flush s q w f z = fit-change s w (flush s q w) _ _ (flush-seen s q w (rows-fit w f s)) f z (f .few s)
+fit-flush s q w f z = fit-change s w (flush s q w) _ _ (flush-seen s q w (rows-fit w f s)) f z (le-refl (countOf w s)) (f .few s)
     (omega (arith, flush-memory (w .session .parts) q (w .session .clock) (sideOf w s))) (counts s)
   where
     counts : (s : Source) (k : ℕ) → k < 2 * w .session .parts → getD (flush s q w .session .counts) k 0 ≤ 32
@@ -94,7 +102,7 @@ fit-flush s q w f z = fit-change s w (flush s q w) _ _ (flush-seen s q w (rows-f
 
 pub fit-store : (s : Source) (item : Item) (w : World) → Fit w → w .session .next ≡ 0 → countOf w s < w .session .limit → Fit (store s item w)
 unfolding store
-fit-store s item w f z h = fit-change s w (store s item w) _ _ (store-seen s item w (row-fits w f s h)) f z h
+fit-store s item w f z h = fit-change s w (store s item w) _ _ (store-seen s item w (row-fits w f s h)) f z (omega arith) h
     (omega (arith, store-memory item (w .session .clock) (sideOf w s))) (counts s)
   where
     counts : (s : Source) (k : ℕ) → k < 2 * w .session .parts → getD (store s item w .session .counts) k 0 ≤ 32
@@ -113,7 +121,7 @@ listable s q w f part some = record {
 
 pub fit-note : (s : Source) (q last : ℕ) (w : World) → Fit w → w .session .next ≡ 0 → Listable s q w → Fit (note s q last w)
 unfolding note
-fit-note s q last w f z n = fit-change s w (note s q last w) _ _ (note-seen s q last w n) f z (f .few s) (omega arith) λ k h. go k h (eqb k no) refl
+fit-note s q last w f z n = fit-change s w (note s q last w) _ _ (note-seen s q last w n) f z (le-refl (countOf w s)) (f .few s) (omega arith) λ k h. go k h (eqb k no) refl
   where
     no : ℕ
     no = listNo (w .session .parts) s q
@@ -129,6 +137,7 @@ fit-shut A w f = record {
   few = both-sources (λ u. countOf (shut A w) u ≤ w .session .limit) A (f .few A) (f .few B);
   clock = f .clock;
   next = f .next;
+  lone = both-sources (λ u. placeOf w u ≤ countOf (shut A w) u) A (f .lone A) (f .lone B);
   counted = f .counted;
   short = f .short;
 }
@@ -137,13 +146,22 @@ fit-shut B w f = record {
   few = both-sources (λ u. countOf (shut B w) u ≤ w .session .limit) B (f .few B) (f .few A);
   clock = f .clock;
   next = f .next;
+  lone = both-sources (λ u. placeOf w u ≤ countOf (shut B w) u) B (f .lone B) (f .lone A);
   counted = f .counted;
   short = f .short;
 }
 
 pub fit-move : (k : ℕ) (w : World) → Fit w → k ≤ countOf w A * countOf w B → Fit (move k w)
 unfolding move
-fit-move k w f h = record { sizes = f .sizes; few = f .few; clock = f .clock; next = h; counted = f .counted; short = f .short }
+fit-move k w f h = record { sizes = f .sizes; few = f .few; clock = f .clock; next = h; lone = f .lone; counted = f .counted; short = f .short }
+
+pub fit-pass : (s : Source) (k : ℕ) (w : World) → Fit w → k ≤ countOf w s → Fit (pass s k w)
+unfolding pass
+fit-pass s k w f h = record { sizes = f .sizes; few = f .few; clock = f .clock; next = f .next; lone = go s h; counted = f .counted; short = f .short }
+  where
+    go : (s : Source) → k ≤ countOf w s → (u : Source) → placeOf (pass s k w) u ≤ countOf w u
+    go A h = both-sources (λ u. placeOf (pass A k w) u ≤ countOf w u) A h (f .lone B)
+    go B h = both-sources (λ u. placeOf (pass B k w) u ≤ countOf w u) B h (f .lone A)
 
 -- ---- number 1
 
@@ -168,5 +186,7 @@ fits-hold w f = let t = w .session in let z = f .sizes in
       le-leb (t .b .rows) (t .limit) (f .few B),
       le-leb (t .clock) 16384 (omega (arith, f .clock, f .few A, f .few B, z .limit)),
       le-leb (t .next) (t .a .rows * t .b .rows) (f .next),
+      le-leb (t .lone .a) (t .a .rows) (f .lone A),
+      le-leb (t .lone .b) (t .b .rows) (f .lone B),
     )
     (counts-hold (t .counts) (2 * t .parts) (f .short))

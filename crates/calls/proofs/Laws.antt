@@ -13,18 +13,18 @@ use Rattle.stamps.specs.declared.Source.the-variants.{A, B}
 use Rattle.stamps.specs.declared.Item.{Item}
 use Rattle.stamps.specs.Counting.Laws.{tally-le}
 use Rattle.stamps.specs.Keys.{itemOf}
-use Rattle.sheets.specs.Layout.{roomOf}
+use Rattle.sheets.specs.Layout.{roomOf, singleRoom}
 use Rattle.sheets.specs.Rows.{hot}
-use Rattle.calls.specs.Answers.{refused, pairsOf}
-use Rattle.calls.specs.Calls.{After, after, joins, arrives, evicts, tries, runs, owed, drains, effect, settle, afterCall, fresh, opens}
-use Rattle.calls.specs.Refusals.{Check, check, verdict, sizesFit, roomFor, makeRoom, idle, portionChecks, rowChecks, roomCheck, tryChecks, checks}
+use Rattle.calls.specs.Answers.{refused, writtenOf}
+use Rattle.calls.specs.Calls.{After, after, joins, arrives, evicts, tries, runs, owed, drains, alone, lists, effect, settle, afterCall, fresh, opens}
+use Rattle.calls.specs.Refusals.{Check, check, verdict, sizesFit, roomFor, makeRoom, idle, portionChecks, rowChecks, roomCheck, tryChecks, roomIn, checks}
 use Rattle.calls.specs.Work.{leaves, world}
-use Rattle.calls.specs.World.{World, countOf, rowsOf, flush, store, note, shut, move, sideOf}
+use Rattle.calls.specs.World.{World, countOf, rowsOf, flush, store, note, shut, move, pass, sideOf}
 use Rattle.calls.specs.declared.types.Call.{Call}
-use Rattle.calls.specs.declared.types.Call.the-variants.{Arrive, Evict, Run, Close, Drain}
+use Rattle.calls.specs.declared.types.Call.the-variants.{Arrive, Evict, Run, Close, Drain, Lone}
 use Rattle.calls.specs.declared.types.Why.{Why}
 use Rattle.calls.specs.declared.types.Why.the-variants.{BadSheet, ListFull}
-use Rattle.calls.specs.declared.types.Answer.the-variants.{Opened, Ran, More, Done, Refused}
+use Rattle.calls.specs.declared.types.Answer.the-variants.{Opened, Ran, More, Done, MoreLone, DoneLone, Refused}
 use Rattle.calls.specs.declared.types.Reply.{Reply}
 use Rattle.calls.specs.declared.refusals.Verdict.{Verdict}
 use Rattle.calls.specs.declared.refusals.Verdict.the-variants.{Good, No}
@@ -47,7 +47,7 @@ one-result x r r′ a a′ b b′ probe probe′ o o′ e f = let g : leaves r a
 -- ---- a refusal hands back the same session and leaves every word
 
 pub accepts : (w : World) (o : List ℕ) (c : Call) → refused (effect w o c .answer) ≡ false
-unfolding effect arrives joins evicts runs drains
+unfolding effect arrives joins evicts runs drains lists
 accepts w o (Arrive s m) = refl
 accepts w o (Evict s q) = refl
 accepts w o (Run s q) = go (idle w s q)
@@ -61,11 +61,16 @@ accepts w o Drain = go (ltb (roomOf (length o)) (length (owed w)))
     go : (u : Bool) → refused (cond u More Done (length (take (roomOf (length o)) (owed w)))) ≡ false
     go true = refl
     go false = refl
+accepts w o (Lone s) = go (ltb (singleRoom (length o)) (length (alone s w)))
+  where
+    go : (u : Bool) → refused (cond u MoreLone DoneLone (length (take (singleRoom (length o)) (alone s w)))) ≡ false
+    go true = refl
+    go false = refl
 
 -- a refused call is refused by its checks
-pub refused-by : (w : World) (o : List ℕ) (c : Call) (y : Why) → afterCall w o c .answer ≡ Refused y → verdict (checks w c (roomOf (length o))) ≡ No y
+pub refused-by : (w : World) (o : List ℕ) (c : Call) (y : Why) → afterCall w o c .answer ≡ Refused y → verdict (checks w c (roomIn c (length o))) ≡ No y
 unfolding afterCall
-refused-by w o c y = go (verdict (checks w c (roomOf (length o))))
+refused-by w o c y = go (verdict (checks w c (roomIn c (length o))))
   where
     go : (v : Verdict) → settle v w o (effect w o c) .answer ≡ Refused y → v ≡ No y
     go Good e = absurd (false≢true (sym (accepts w o c) ∙ ap refused e))
@@ -73,7 +78,7 @@ refused-by w o c y = go (verdict (checks w c (roomOf (length o))))
 
 pub refusal-leaves : (w : World) (o : List ℕ) (c : Call) (y : Why) → afterCall w o c .answer ≡ Refused y → (afterCall w o c .world ≡ w) × (afterCall w o c .out ≡ o)
 unfolding afterCall
-refusal-leaves w o c y = go (verdict (checks w c (roomOf (length o))))
+refusal-leaves w o c y = go (verdict (checks w c (roomIn c (length o))))
   where
     go : (v : Verdict) → settle v w o (effect w o c) .answer ≡ Refused y → (settle v w o (effect w o c) .world ≡ w) × (settle v w o (effect w o c) .out ≡ o)
     go Good e = absurd (false≢true (sym (accepts w o c) ∙ ap refused e))
@@ -96,7 +101,7 @@ store-clock A item w = refl
 store-clock B item w = refl
 
 effect-clock : (w : World) (o : List ℕ) (c : Call) → ((s : Source) → countOf w s ≤ 4096) → effect w o c .world .session .clock ≤ w .session .clock + 4097
-unfolding effect arrives joins evicts runs drains note shut move
+unfolding effect arrives joins evicts runs drains lists note shut move pass
 effect-clock w o (Arrive s m) h = omega (arith, store-clock s (itemOf m) (makeRoom (roomFor w) w), room-clock (roomFor w) w h)
 effect-clock w o (Evict s q) h = omega (arith, flush-clock s q w (h s))
 effect-clock w o (Run s q) h = go (idle w s q)
@@ -107,24 +112,25 @@ effect-clock w o (Run s q) h = go (idle w s q)
 effect-clock w o (Close A) h = omega arith
 effect-clock w o (Close B) h = omega arith
 effect-clock w o Drain h = omega arith
+effect-clock w o (Lone s) h = omega arith
 
 pub clock-bound : (w : World) (o : List ℕ) (c : Call) → ((s : Source) → countOf w s ≤ 4096) → afterCall w o c .world .session .clock ≤ w .session .clock + 4097
 unfolding afterCall
-clock-bound w o c h = go (verdict (checks w c (roomOf (length o))))
+clock-bound w o c h = go (verdict (checks w c (roomIn c (length o))))
   where
     go : (v : Verdict) → settle v w o (effect w o c) .world .session .clock ≤ w .session .clock + 4097
     go Good = effect-clock w o c h
     go (No y) = omega arith
 
--- ---- a call writes no more pairs than its output has room for
+-- ---- a call lists no more than its output has room for, be it pairs or rows without partner
 
 -- a check of the room that let the call through, after others
 room-suffices : (cs : List Check) (room n : ℕ) → verdict (cs ++ (roomCheck room n ∷ [])) ≡ Good → n ≤ room
 room-suffices cs room n h = ltb-false room n (verdict-first _ [] (verdict-last cs _ h))
 
-effect-fits : (w : World) (o : List ℕ) (c : Call) → verdict (checks w c (roomOf (length o))) ≡ Good → pairsOf (effect w o c .answer) ≤ roomOf (length o)
-unfolding effect arrives joins evicts runs drains checks
-effect-fits w o (Arrive s m) h = room-suffices (rowChecks (w .session) s m (length (w .a)) (length (w .b)) (length (w .probe))) _ _ h
+effect-fits : (w : World) (o : List ℕ) (c : Call) → verdict (checks w c (roomIn c (length o))) ≡ Good → writtenOf (effect w o c .answer) ≤ roomIn c (length o)
+unfolding effect arrives joins evicts runs drains lists checks
+effect-fits w o (Arrive s m) h = omega (arith, room-suffices (rowChecks (w .session) s m (length (w .a)) (length (w .b)) (length (w .probe))) (roomOf (length o)) _ h)
 effect-fits w o (Evict s q) h = omega arith
 effect-fits w o (Run s q) h = go (idle w s q) (verdict-last (portionChecks (w .session) q (length (w .a)) (length (w .b)) (length (w .probe))) _ h)
   where
@@ -132,28 +138,33 @@ effect-fits w o (Run s q) h = go (idle w s q) (verdict-last (portionChecks (w .s
     crowded = check (leb 32 (length (sideOf w s .list q))) ListFull ∷ []
 
     go : (u : Bool) → verdict (cond u [] (tryChecks w s q (roomOf (length o)))) ≡ Good
-        → pairsOf ((cond u (after (Ran 0) w o) (tries s q w o)) .answer) ≤ roomOf (length o)
+        → writtenOf ((cond u (after (Ran 0) w o) (tries s q w o)) .answer) ≤ roomOf (length o)
     go true e = omega arith
-    go false e = room-suffices crowded _ _ e
+    go false e = omega (arith, room-suffices crowded (roomOf (length o)) _ e)
 effect-fits w o (Close s) h = omega arith
 effect-fits w o Drain h = go (ltb (roomOf (length o)) (length (owed w)))
   where
-    go : (u : Bool) → pairsOf (cond u More Done (length (take (roomOf (length o)) (owed w)))) ≤ roomOf (length o)
+    go : (u : Bool) → writtenOf (cond u More Done (length (take (roomOf (length o)) (owed w)))) ≤ roomOf (length o)
     go true = omega (arith, length-take (roomOf (length o)) (owed w))
     go false = omega (arith, length-take (roomOf (length o)) (owed w))
-
-pub pairs-fit : (w : World) (o : List ℕ) (c : Call) → pairsOf (afterCall w o c .answer) ≤ roomOf (length o)
-unfolding afterCall
-pairs-fit w o c = go (verdict (checks w c (roomOf (length o)))) refl
+effect-fits w o (Lone s) h = go (ltb (singleRoom (length o)) (length (alone s w)))
   where
-    go : (v : Verdict) → verdict (checks w c (roomOf (length o))) ≡ v → pairsOf (settle v w o (effect w o c) .answer) ≤ roomOf (length o)
+    go : (u : Bool) → writtenOf (cond u MoreLone DoneLone (length (take (singleRoom (length o)) (alone s w)))) ≤ singleRoom (length o)
+    go true = omega (arith, length-take (singleRoom (length o)) (alone s w))
+    go false = omega (arith, length-take (singleRoom (length o)) (alone s w))
+
+pub written-fits : (w : World) (o : List ℕ) (c : Call) → writtenOf (afterCall w o c .answer) ≤ roomIn c (length o)
+unfolding afterCall
+written-fits w o c = go (verdict (checks w c (roomIn c (length o)))) refl
+  where
+    go : (v : Verdict) → verdict (checks w c (roomIn c (length o))) ≡ v → writtenOf (settle v w o (effect w o c) .answer) ≤ roomIn c (length o)
     go Good e = effect-fits w o c e
     go (No y) e = omega arith
 
-pub opens-none : (p m n a b probe : ℕ) → pairsOf (opens p m n a b probe .answer) ≡ 0
+pub opens-none : (p m n a b probe : ℕ) → writtenOf (opens p m n a b probe .answer) ≡ 0
 unfolding opens
 opens-none p m n a b probe = go (sizesFit p m n a b probe)
   where
-    go : (u : Bool) → pairsOf ((cond {A = Reply} u (record { answer = Opened; session = fresh p m n }) (record { answer = Refused BadSheet; session = fresh 0 0 0 })) .answer) ≡ 0
+    go : (u : Bool) → writtenOf ((cond {A = Reply} u (record { answer = Opened; session = fresh p m n }) (record { answer = Refused BadSheet; session = fresh 0 0 0 })) .answer) ≡ 0
     go true = refl
     go false = refl

@@ -1,11 +1,16 @@
 mod Accepted
+mod Apart
 mod Arrivals
 mod Checks
 pub mod Demand3
 mod Fitting
 pub mod Laws
+pub mod Lone
+mod Moments
 mod Owing
+mod Rounds
 mod Runs
 mod Seen
 mod Settling
+mod Singles
 mod Steps

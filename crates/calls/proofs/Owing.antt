@@ -12,18 +12,18 @@ use Rattle.stamps.specs.declared.Source.{Source}
 use Rattle.stamps.specs.declared.Source.the-variants.{A, B}
 use Rattle.stamps.specs.declared.Item.{Item}
 use Rattle.stamps.specs.Counting.{bit}
+use Rattle.stamps.specs.Counting.Laws.{count-append}
 use Rattle.stamps.specs.Sources.{other}
-use Rattle.sheets.specs.declared.layout.Told.{Told}
-use Rattle.sheets.specs.Joins.{done, numbers, isPair, times}
-use Rattle.sheets.specs.Layout.{rowsNeed}
+use Rattle.sheets.specs.Joins.{done, numbers, isPair, same, times}
+use Rattle.sheets.specs.Layout.{Told, rowsNeed}
 use Rattle.sheets.specs.Pairs.{Side, Table, position, tellAll, told}
 use Rattle.sheets.specs.Rows.{latest}
-use Rattle.sheets.proofs.Counts.{times-append}
-use Rattle.sheets.proofs.Rises.{Parts, drain-tells}
+use Rattle.sheets.proofs.Handing.{Parts}
+use Rattle.sheets.proofs.Rises.{drain-tells}
 use Rattle.sheets.proofs.Changes.{out, out-swap, Under, under-more, withA, flush-under, flush-out, store-under, store-out, latest-under, note-under, note-out}
 use Rattle.calls.specs.Calls.{owed}
 use Rattle.calls.specs.Refusals.{arrived, ran}
-use Rattle.calls.specs.World.{World, countOf, sheetOf, closedOf, rowsOf, sideOf, seenFrom, flush, store, note, shut, move}
+use Rattle.calls.specs.World.{World, countOf, sheetOf, closedOf, rowsOf, sideOf, seenFrom, flush, store, note, shut, move, pass}
 use Rattle.calls.proofs.Seen.{both-sources, Seen, seen-from, flush-seen, store-seen, Listable, note-seen}
 
 -- written by now
@@ -51,7 +51,7 @@ sound-change s w w′ c d l ps n g z h u e = record {
   under = both-sources (λ v. Under (w′ .session .clock) (sideOf w′ v)) s (rw (n .new-clock, n .own) u)
       (rw (n .new-clock, n .facing) (under-more (w .session .clock) c (sideOf w (other s)) h (g .under (other s))));
   start = λ v k. n .same-next ∙ z;
-  tells = λ x. times-append x l ps ∙ ap (λ (k : ℕ). k + times x ps) (g .tells x ∙ ap bit (out-open w z s x))
+  tells = λ x. count-append same x l ps ∙ ap (λ (k : ℕ). k + times x ps) (g .tells x ∙ ap bit (out-open w z s x))
       ∙ sym (e x) ∙ ap (λ (t : Table). bit (out s t x)) (sym (seen-from s w w′ c d n)) ∙ ap bit (sym (out-open w′ (n .same-next ∙ z) s x));
 }
 
@@ -88,11 +88,15 @@ sound-shut B w l g = record {
   tells = g .tells;
 }
 
-pub sound-move : (r next : ℕ) (w : World) (l : List Told) → Parts (seenFrom A w) (w .session .next) r (countOf w A * countOf w B) next (owed w)
+pub sound-move : (r next : ℕ) (w : World) (l : List Told) → Parts (position (seenFrom A w)) (w .session .next) r (countOf w A * countOf w B) next (owed w)
     → ((s : Source) → closedOf w s ≡ true) → Sound w l → Sound (move next w) (l ++ told A (seenFrom A w) (take r (owed w)))
 unfolding move
 sound-move r next w l p c g = record {
   under = g .under;
   start = λ s e. absurd (true≢false (sym (c s) ∙ e));
-  tells = λ x. times-append x l _ ∙ rw (g .tells x) (drain-tells (seenFrom A w) (w .session .next) r next p x);
+  tells = λ x. count-append same x l _ ∙ rw (g .tells x) (drain-tells (seenFrom A w) (w .session .next) r next p x);
 }
+
+pub sound-pass : (s : Source) (k : ℕ) (w : World) (l : List Told) → Sound w l → Sound (pass s k w) l
+unfolding pass
+sound-pass s k w l g = record { under = g .under; start = g .start; tells = g .tells }

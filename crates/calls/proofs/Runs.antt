@@ -21,7 +21,7 @@ use Rattle.sheets.specs.Pairs.{Table, tableOf, Ready, Writes, wantedPairs, pair
 use Rattle.sheets.specs.declared.pairs.Job.{Job}
 use Rattle.sheets.specs.declared.pairs.Scope.{Scope}
 use Rattle.sheets.specs.declared.pairs.Scope.the-variants.{Portion}
-use Rattle.sheets.specs.declared.pairs.Written.{Written}
+use Rattle.sheets.specs.declared.rooms.Written.{Written}
 use Rattle.sheets.specs.declared.lists.ProbeList.{ProbeList}
 use Rattle.sheets.proofs.Laws.{latest-none, list-entries, length-list, list-small, wanted-few, product-few, pairs-from-start}
 use Rattle.calls.specs.Calls.{After, after, runs, owed, drains, effect, settle, afterCall}
@@ -81,9 +81,9 @@ seen-is B t scope own facing probe = refl
 -- ---- a drain
 
 pub drained : (w : World) (o o′ : List ℕ) (room : ℕ) (r : Written) → room ≡ roomOf (length o) → Writes A (seenFrom A w) (owed w) (w .session .next) room o o′ r
-    → after (cond (r .more) More Done (r .pairs)) (world (withNext (r .next) (w .session)) (w .a) (w .b) (w .probe)) o′ ≡ drains w o
+    → after (cond (r .more) More Done (r .count)) (world (withNext (r .next) (w .session)) (w .a) (w .b) (w .probe)) o′ ≡ drains w o
 unfolding drains move
-drained w o o′ room r e h = rw (h .pairs, h .more, h .next, h .out, e)
+drained w o o′ room r e h = rw (h .count, h .more, h .next, h .out, e)
 
 -- ---- what a run has to do
 

@@ -1,6 +1,7 @@
 -- What a flush, an arrival and a run's entry do to the rows and lists that the sheets hold: one source changes, the other stays.
 -- Each is read back by the laws of the sheets. Assumes nothing.
 use mathlib.Core.Path.{_≡_, refl, ap, fun-ext}
+use mathlib.Core.Bool.{true, false, false≢true}
 use mathlib.Core.List.{List}
 use Prim.Native.Nat.{ℕ, suc, _+_, _*_, _≤_, _<_}
 use lib.ListN.{length, length-set, getD}
@@ -19,6 +20,7 @@ use Rattle.sheets.proofs.Laws.{length-lay, rows-lay, rows-put}
 use Rattle.sheets.proofs.Changes.{flushedSide, storedSide, newRow, notedSide, withA}
 use Rattle.sheets.proofs.Noted.{list-own, list-facing}
 use Rattle.calls.specs.declared.types.Session.{Session}
+use Rattle.calls.specs.Work.{same}
 use Rattle.calls.specs.World.{World, countOf, sheetOf, closedOf, rowsOf, sideOf, seenFrom, flush, store, note}
 
 -- what holds of a source and of the other one holds of both
@@ -27,6 +29,20 @@ both-sources P A x y A = x
 both-sources P A x y B = y
 both-sources P B x y A = y
 both-sources P B x y B = x
+
+pub same-own : (s : Source) → same s s ≡ true
+same-own A = refl
+same-own B = refl
+
+pub same-facing : (s : Source) → same s (other s) ≡ false
+same-facing A = refl
+same-facing B = refl
+
+pub same-eq : (v s : Source) → same v s ≡ true → v ≡ s
+same-eq A A h = refl
+same-eq A B h = absurd (false≢true h)
+same-eq B A h = absurd (false≢true h)
+same-eq B B h = refl
 
 -- the numbers that no call changes
 pub record Extent : Type 0 where
@@ -52,6 +68,7 @@ pub record Seen (s : Source) (w w′ : World) (clock : ℕ) (d : Side) : Type 0 
   pub same-extent : extent w′ ≡ extent w
   pub new-clock : w′ .session .clock ≡ clock
   pub same-next : w′ .session .next ≡ w .session .next
+  pub same-lone : w′ .session .lone ≡ w .session .lone
   pub same-closed : (u : Source) → closedOf w′ u ≡ closedOf w u
   pub same-counted : length (w′ .session .counts) ≡ length (w .session .counts)
 
@@ -84,6 +101,7 @@ flush-seen s q w h = go s (rows-lay _ (countOf w s) (sheetOf w s) h) (length-lay
       same-extent = ap (resized A w) n;
       new-clock = refl;
       same-next = refl;
+      same-lone = refl;
       same-closed = λ u. refl;
       same-counted = refl;
     }
@@ -93,6 +111,7 @@ flush-seen s q w h = go s (rows-lay _ (countOf w s) (sheetOf w s) h) (length-lay
       same-extent = ap (resized B w) n;
       new-clock = refl;
       same-next = refl;
+      same-lone = refl;
       same-closed = λ u. refl;
       same-counted = refl;
     }
@@ -113,6 +132,7 @@ store-seen s item w h = go s (rows-put (sheetOf w s) (countOf w s) new h) (lengt
       same-extent = ap (resized A w) n;
       new-clock = refl;
       same-next = refl;
+      same-lone = refl;
       same-closed = both-sources _ A refl refl;
       same-counted = refl;
     }
@@ -122,6 +142,7 @@ store-seen s item w h = go s (rows-put (sheetOf w s) (countOf w s) new h) (lengt
       same-extent = ap (resized B w) n;
       new-clock = refl;
       same-next = refl;
+      same-lone = refl;
       same-closed = both-sources _ B refl refl;
       same-counted = refl;
     }
@@ -146,6 +167,7 @@ note-seen s q last w h = let e : Entry = record { last = last; probe = w .sessio
       same-extent = ap (sized (w .session) (length (w .a)) (length (w .b))) (length-putEntry (listNo (w .session .parts) s q) _ e (w .probe));
       new-clock = refl;
       same-next = refl;
+      same-lone = refl;
       same-closed = λ u. refl;
       same-counted = length-set (w .session .counts) _ _;
     }

@@ -8,10 +8,9 @@ use native.Mathlib.Omega.{arith}
 use lib.ListN.{length}
 use borrow.Author.Tests.{not-false}
 use Rattle.stamps.specs.declared.Source.{Source}
-use Rattle.sheets.specs.Layout.{roomOf}
 use Rattle.sheets.specs.Rows.{Flushes}
 use Rattle.calls.specs.Calls.{After, after, effect, afterCall, evicts}
-use Rattle.calls.specs.Refusals.{Check, check, verdict, sessionFits, checks}
+use Rattle.calls.specs.Refusals.{Check, check, verdict, sessionFits, roomIn, checks}
 use Rattle.calls.specs.Work.{world, Fits, Rows, Clears}
 use Rattle.calls.specs.World.{World, sheetOf, countOf, withClock, withSheet, flush}
 use Rattle.calls.specs.declared.types.Call.{Call}
@@ -22,11 +21,11 @@ use Rattle.calls.specs.declared.types.Session.{Session}
 use Rattle.calls.specs.declared.refusals.Verdict.the-variants.{Good, No}
 use Rattle.calls.proofs.Checks.{fits-are}
 
-pub settle-no : (w : World) (o : List ℕ) (c : Call) (y : Why) → verdict (checks w c (roomOf (length o))) ≡ No y → after (Refused y) w o ≡ afterCall w o c
+pub settle-no : (w : World) (o : List ℕ) (c : Call) (y : Why) → verdict (checks w c (roomIn c (length o))) ≡ No y → after (Refused y) w o ≡ afterCall w o c
 unfolding afterCall
 settle-no w o c y e = rw e
 
-pub settle-good : (w : World) (o : List ℕ) (c : Call) (x : After) → verdict (checks w c (roomOf (length o))) ≡ Good → x ≡ effect w o c → x ≡ afterCall w o c
+pub settle-good : (w : World) (o : List ℕ) (c : Call) (x : After) → verdict (checks w c (roomIn c (length o))) ≡ Good → x ≡ effect w o c → x ≡ afterCall w o c
 unfolding afterCall
 settle-good w o c x e h = rw e h
 

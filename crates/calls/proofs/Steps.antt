@@ -1,7 +1,7 @@
 -- Each call that is not refused keeps what holds between calls, and what it wrote is read back. By the checks that it passed.
 -- The victim enters as some portion. Assumes nothing.
-use mathlib.Core.Path.{_≡_, refl, sym, ap, _∙_}
-use mathlib.Core.Bool.{Bool, true, false, cond, not, _&&_}
+use mathlib.Core.Path.{_≡_, refl, ap, _∙_}
+use mathlib.Core.Bool.{Bool, true, false, cond, _&&_}
 use mathlib.Core.List.{List, [], _++_, append-nil}
 use Prim.Native.Nat.{ℕ, suc, _+_, _*_, _≤_, _<_}
 use native.Mathlib.Omega.{arith}
@@ -15,26 +15,27 @@ use Rattle.stamps.specs.declared.Item.{Item}
 use Rattle.stamps.specs.Counting.Laws.{both}
 use Rattle.stamps.specs.Keys.{itemOf}
 use Rattle.stamps.specs.Sources.{other}
-use Rattle.sheets.specs.declared.layout.Told.{Told}
-use Rattle.sheets.specs.Layout.{rowsNeed, roomOf}
-use Rattle.sheets.specs.Pairs.{Pair, tellAll, told, putFrom, pairsAt}
-use Rattle.sheets.proofs.Laws.{read-put, length-tellAll}
-use Rattle.sheets.proofs.Rises.{Parts, drain-parts}
+use Rattle.sheets.specs.Layout.{Told, rowsNeed, roomOf, singleRoom, pairsNeed, pairAt, putPair}
+use Rattle.sheets.specs.Pairs.{Pair, tell, position, tellAll, told, putFrom, pairsAt}
+use Rattle.sheets.proofs.Alone.{lone-parts}
+use Rattle.sheets.proofs.Handing.{read-told, Parts}
+use Rattle.sheets.proofs.Laws.{pair-words}
+use Rattle.sheets.proofs.Rises.{drain-parts}
 use Rattle.calls.specs.Answers.{pairsOf}
-use Rattle.calls.specs.Calls.{After, after, joins, arrives, evicts, tries, runs, owed, drains, effect, settle, afterCall}
+use Rattle.calls.specs.Calls.{After, after, joins, arrives, evicts, tries, runs, owed, drains, alone, lists, effect, settle, afterCall}
 use Rattle.calls.specs.Demand3.{wrote}
-use Rattle.calls.specs.Refusals.{verdict, tryChecks, roomFor, makeRoom, arrived, idle, ran, bothClosed, portionChecks, checks}
-use Rattle.calls.specs.World.{World, countOf, sheetOf, closedOf, rowsOf, seenFrom, flush, shut, move}
+use Rattle.calls.specs.Refusals.{verdict, tryChecks, roomFor, makeRoom, arrived, idle, ran, bothClosed, portionChecks, roomIn, checks}
+use Rattle.calls.specs.World.{World, countOf, sheetOf, closedOf, rowsOf, seenFrom, itemsFrom, placeOf, flush, shut, move, pass}
 use Rattle.calls.specs.declared.types.Call.{Call}
-use Rattle.calls.specs.declared.types.Call.the-variants.{Arrive, Evict, Run, Close, Drain}
-use Rattle.calls.specs.declared.types.Answer.the-variants.{Ran, More, Done}
+use Rattle.calls.specs.declared.types.Call.the-variants.{Arrive, Evict, Run, Close, Drain, Lone}
+use Rattle.calls.specs.declared.types.Answer.the-variants.{Ran, More, Done, MoreLone, DoneLone}
 use Rattle.calls.specs.declared.refusals.Verdict.{Verdict}
 use Rattle.calls.specs.declared.refusals.Verdict.the-variants.{Good, No}
 use Rattle.calls.specs.declared.arriving.Room.{Room}
 use Rattle.calls.specs.declared.arriving.Room.the-variants.{Enough, Flush}
 use Rattle.calls.proofs.Arrivals.{count-room}
-use Rattle.calls.proofs.Owing.{Sound, sound-flush, sound-store, sound-note, sound-shut, sound-move}
-use Rattle.calls.proofs.Fitting.{Fit, rows-fit, row-fits, fit-flush, fit-store, listable, fit-note, fit-shut, fit-move}
+use Rattle.calls.proofs.Owing.{Sound, sound-flush, sound-store, sound-note, sound-shut, sound-move, sound-pass}
+use Rattle.calls.proofs.Fitting.{Fit, rows-fit, row-fits, fit-flush, fit-store, listable, fit-note, fit-shut, fit-move, fit-pass}
 use Rattle.calls.proofs.Seen.{both-sources, Extent, Listable, flush-seen}
 use Rattle.calls.proofs.Settling.{verdict-first, verdict-rest}
 
@@ -56,8 +57,7 @@ not-begun w l g e = go (closedOf w A) refl (closedOf w B) refl e
 
 reads : (s : Source) (f f′ : ℕ → Item) (ps : List Pair) (o : List ℕ) → length ps ≤ roomOf (length o)
     → pairsAt (putFrom 0 (tellAll s f f′ ps) o) 0 (length ps) ≡ tellAll s f f′ ps
-reads s f f′ ps o h = let e : length (tellAll s f f′ ps) ≡ length ps = length-tellAll s f f′ ps in
-    ap (pairsAt (putFrom 0 (tellAll s f f′ ps) o) 0) (sym e) ∙ read-put 0 (tellAll s f f′ ps) o (rw e (omega arith))
+reads s f f′ ps o h = read-told pairAt putPair pairsNeed pair-words (λ p. tell s p (f (p .a)) (f′ (p .b))) ps o (omega arith)
 
 -- ---- each call
 
@@ -66,6 +66,9 @@ sits-flush s q w l g z = record { sound = sound-flush s q w l (rows-fit w (g .fi
 
 sits-shut : (s : Source) (w : World) (l : List Told) → Sits w l → Sits (shut s w) l
 sits-shut s w l g = record { sound = sound-shut s w l (g .sound); fit = fit-shut s w (g .fit) }
+
+sits-pass : (s : Source) (k : ℕ) (w : World) (l : List Told) → Sits w l → k ≤ countOf w s → Sits (pass s k w) l
+sits-pass s k w l g h = record { sound = sound-pass s k w l (g .sound); fit = fit-pass s k w (g .fit) h }
 
 module _ (w : World) (l : List Told) (o : List ℕ) (g : Sits w l) where
   -- what a call leaves and has written
@@ -135,7 +138,7 @@ module _ (w : World) (l : List Told) (o : List ℕ) (g : Sits w l) where
   drain-wrote = rw (pairs-drained (ltb (roomOf (length o)) (length (owed w))) (length (take (roomOf (length o)) (owed w))))
       (reads A (λ i. rowsOf w A i .item) (λ j. rowsOf w B j .item) (take (roomOf (length o)) (owed w)) o (rw length-take (omega arith)))
 
-  pub drain-next : Parts (seenFrom A w) (w .session .next) (roomOf (length o)) (countOf w A * countOf w B) (drains w o .world .session .next) (owed w)
+  pub drain-next : Parts (position (seenFrom A w)) (w .session .next) (roomOf (length o)) (countOf w A * countOf w B) (drains w o .world .session .next) (owed w)
   unfolding drains move
   drain-next = drain-parts (seenFrom A w) (w .session .next) (roomOf (length o)) (g .fit .next)
 
@@ -144,19 +147,33 @@ module _ (w : World) (l : List Told) (o : List ℕ) (g : Sits w l) where
   sits-drain h = let c = both (closedOf w A) (closedOf w B) (not-false _ (verdict-first _ _ (verdict-rest _ _ h))) in
       rw drain-wrote (record { sound = sound-move (roomOf (length o)) _ w l drain-next (both-sources (λ s. closedOf w s ≡ true) A (c .0) (c .1)) (g .sound); fit = fit-move _ w (g .fit) (drain-next .to) })
 
-  sits-effect : (c : Call) → verdict (checks w c (roomOf (length o))) ≡ Good → Goes (effect w o c)
+  -- a lone call writes rows, and no pair
+  lone-wrote : (s : Source) → wrote (lists s w o) ≡ []
+  unfolding lists
+  lone-wrote s = go (ltb (singleRoom (length o)) (length (alone s w)))
+    where
+      go : (u : Bool) → pairsAt (lists s w o .out) 0 (pairsOf (cond u MoreLone DoneLone (length (take (singleRoom (length o)) (alone s w))))) ≡ []
+      go true = refl
+      go false = refl
+
+  sits-lone : (s : Source) → Goes (lists s w o)
+  unfolding lists
+  sits-lone s = rw (lone-wrote s) (nothing (lists s w o .world) (sits-pass s _ w l g (lone-parts (itemsFrom s w) (placeOf w s) (singleRoom (length o)) (g .fit .lone s) .to)))
+
+  sits-effect : (c : Call) → verdict (checks w c (roomIn c (length o))) ≡ Good → Goes (effect w o c)
   unfolding effect
   sits-effect (Arrive s m) h = sits-arrive s m h
   sits-effect (Evict s q) h = sits-evict s q h
   sits-effect (Run s q) h = sits-run s q h
   sits-effect (Close s) h = nothing (shut s w) (sits-shut s w l g)
   sits-effect Drain h = sits-drain h
+  sits-effect (Lone s) h = sits-lone s
 
   -- refused or not
   pub sits-call : (c : Call) → Goes (afterCall w o c)
   unfolding afterCall
-  sits-call c = go (verdict (checks w c (roomOf (length o)))) refl
+  sits-call c = go (verdict (checks w c (roomIn c (length o)))) refl
     where
-      go : (v : Verdict) → verdict (checks w c (roomOf (length o))) ≡ v → Goes (settle v w o (effect w o c))
+      go : (v : Verdict) → verdict (checks w c (roomIn c (length o))) ≡ v → Goes (settle v w o (effect w o c))
       go Good e = sits-effect c e
       go (No y) e = nothing w g

@@ -1,10 +1,10 @@
 -- Document 01's number and values for each kind of answer.
 use mathlib.Core.Bool.{Bool, true, false}
-use Prim.Native.Nat.{ℕ}
+use Prim.Native.Nat.{ℕ, _+_}
 use Rattle.calls.specs.declared.types.Why.{Why}
 use Rattle.calls.specs.declared.types.Why.the-variants.{BadSheet, BadKey, BadPart, Closed, SheetFull, ListFull, StillOpen, RoomShort, BadLine, NoStart}
 use Rattle.calls.specs.declared.types.Answer.{Answer}
-use Rattle.calls.specs.declared.types.Answer.the-variants.{Opened, Taken, Flushed, Ran, Shut, More, Done, Refused}
+use Rattle.calls.specs.declared.types.Answer.the-variants.{Opened, Taken, Flushed, Ran, Shut, More, Done, MoreLone, DoneLone, Refused}
 
 -- the number of a refusal in the table
 abbrev pub codeOf : Why → ℕ
@@ -28,7 +28,26 @@ pairsOf (Ran n) = n
 pairsOf Shut = 0
 pairsOf (More n) = n
 pairsOf (Done n) = n
+pairsOf (MoreLone n) = 0
+pairsOf (DoneLone n) = 0
 pairsOf (Refused w) = 0
+
+-- the rows without partner that an answer says were written
+abbrev pub singlesOf : Answer → ℕ
+singlesOf Opened = 0
+singlesOf (Taken n) = 0
+singlesOf (Flushed n) = 0
+singlesOf (Ran n) = 0
+singlesOf Shut = 0
+singlesOf (More n) = 0
+singlesOf (Done n) = 0
+singlesOf (MoreLone n) = n
+singlesOf (DoneLone n) = n
+singlesOf (Refused w) = 0
+
+-- what it says was written: pairs or rows without partner, and no answer names both
+abbrev pub writtenOf : Answer → ℕ
+writtenOf x = pairsOf x + singlesOf x
 
 -- whether it is a refusal
 abbrev pub refused : Answer → Bool
@@ -39,4 +58,6 @@ refused (Ran n) = false
 refused Shut = false
 refused (More n) = false
 refused (Done n) = false
+refused (MoreLone n) = false
+refused (DoneLone n) = false
 refused (Refused w) = true

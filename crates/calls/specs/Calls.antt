@@ -1,6 +1,6 @@
 -- What each call answers and leaves: the record, every word of the sheets and of the output.
 use mathlib.Core.Bool.{false, cond}
-use mathlib.Core.List.{List}
+use mathlib.Core.List.{List, map}
 use Prim.Native.Nat.{ℕ, _*_}
 use lib.Dec.{ltb}
 use lib.ListN.{length, take, replicate}
@@ -9,18 +9,20 @@ use Rattle.stamps.specs.declared.Source.the-variants.{A}
 use Rattle.stamps.specs.declared.Item.{Item}
 use Rattle.stamps.specs.Keys.{itemOf}
 use Rattle.stamps.specs.Sources.{other}
-use Rattle.sheets.specs.Layout.{roomOf}
-use Rattle.sheets.specs.Pairs.{Pair, pairsFrom, past, tellAll, told, putFrom}
+use Rattle.sheets.specs.Layout.{roomOf, singleRoom, putSingle}
+use Rattle.sheets.specs.Lones.{lonesFrom, number, single}
+use Rattle.sheets.specs.Pairs.{Pair, position, pairsFrom, tellAll, told, putFrom}
+use Rattle.sheets.specs.Rooms.{onward, putAll}
 use Rattle.sheets.specs.Rows.{portionRows, latest}
 use Rattle.sheets.specs.declared.pairs.Scope.the-variants.{All}
-use Rattle.calls.specs.World.{World, countOf, rowsOf, seenFrom, flush, store, note, shut, move}
-use Rattle.calls.specs.Refusals.{verdict, sizesFit, roomFor, makeRoom, arrived, idle, ran, checks}
+use Rattle.calls.specs.World.{World, countOf, rowsOf, seenFrom, placeOf, itemsFrom, flush, store, note, shut, move, pass}
+use Rattle.calls.specs.Refusals.{verdict, sizesFit, roomFor, makeRoom, arrived, idle, ran, roomIn, checks}
 use Rattle.calls.specs.declared.types.Session.{Session}
 use Rattle.calls.specs.declared.types.Call.{Call}
-use Rattle.calls.specs.declared.types.Call.the-variants.{Arrive, Evict, Run, Close, Drain}
+use Rattle.calls.specs.declared.types.Call.the-variants.{Arrive, Evict, Run, Close, Drain, Lone}
 use Rattle.calls.specs.declared.types.Why.the-variants.{BadSheet}
 use Rattle.calls.specs.declared.types.Answer.{Answer}
-use Rattle.calls.specs.declared.types.Answer.the-variants.{Opened, Taken, Flushed, Ran, Shut, More, Done, Refused}
+use Rattle.calls.specs.declared.types.Answer.the-variants.{Opened, Taken, Flushed, Ran, Shut, More, Done, MoreLone, DoneLone, Refused}
 use Rattle.calls.specs.declared.types.Reply.{Reply}
 use Rattle.calls.specs.declared.refusals.Verdict.{Verdict}
 use Rattle.calls.specs.declared.refusals.Verdict.the-variants.{Good, No}
@@ -68,8 +70,19 @@ owed w = pairsFrom All (w .session .next) (seenFrom A w)
 unfoldable pub drains : World → List ℕ → After
 drains w o = let t = seenFrom A w in let room = roomOf (length o) in let ps = take room (owed w) in
     after (cond (ltb room (length (owed w))) More Done (length ps))
-    (move (cond (ltb room (length (owed w))) (past t (w .session .next) ps) (t .a .count * t .b .count)) w)
+    (move (onward (position t) (t .a .count * t .b .count) (w .session .next) room (owed w)) w)
     (putFrom 0 (told A t ps) o)
+
+-- the rows without partner that lone calls have still to list
+abbrev pub alone : Source → World → List ℕ
+alone s w = lonesFrom (placeOf w s) (itemsFrom s w)
+
+-- "its rows that match no row of the other source, ascending, .. as many as the room holds; More and Done as in a drain"
+unfoldable pub lists : Source → World → List ℕ → After
+lists s w o = let t = itemsFrom s w in let room = singleRoom (length o) in let rows = take room (alone s w) in
+    after (cond (ltb room (length (alone s w))) MoreLone DoneLone (length rows))
+    (pass s (onward number (t .rows) (placeOf w s) room (alone s w)) w)
+    (putAll putSingle 0 (map (single t) rows) o)
 
 -- each call that is not refused
 unfoldable pub effect : World → List ℕ → Call → After
@@ -78,6 +91,7 @@ effect w o (Evict s q) = evicts s q w o
 effect w o (Run s q) = runs s q w o
 effect w o (Close s) = after Shut (shut s w) o
 effect w o Drain = drains w o
+effect w o (Lone s) = lists s w o
 
 -- ---- every call
 
@@ -88,11 +102,11 @@ settle (No y) w o t = after (Refused y) w o
 
 -- the first check that fails refuses the call; else it does what its rule says
 unfoldable pub afterCall : World → List ℕ → Call → After
-afterCall w o c = settle (verdict (checks w c (roomOf (length o)))) w o (effect w o c)
+afterCall w o c = settle (verdict (checks w c (roomIn c (length o)))) w o (effect w o c)
 
 -- ---- the opening
 
--- "Opening gives clock 0, no rows, nothing closed, empty lists, position 0, and writes in no sheet"
+-- "Opening gives clock 0, no rows, nothing closed, empty lists, position 0, and writes in no sheet"; the lone calls' positions are 0 too
 abbrev pub fresh : ℕ → ℕ → ℕ → Session
 fresh p m n = record {
   parts = p;
@@ -103,6 +117,7 @@ fresh p m n = record {
   b = record { rows = 0; closed = false };
   counts = replicate 32 0;
   next = 0;
+  lone = record { a = 0; b = 0 };
 }
 
 -- "a refused opening, which was given none, hands back one of zeros with nothing closed"

@@ -3,35 +3,29 @@
 use mathlib.Core.Path.{_≡_}
 use mathlib.Core.Bool.{true, cond}
 use mathlib.Core.List.{List, [], _∷_, _++_}
-use Prim.Native.Nat.{ℕ, suc, _+_, _*_, _-_, _/_, _≤_, _<_, min}
-use lib.Dec.{leb}
-use lib.ListN.{length, take}
+use Prim.Native.Nat.{ℕ, _+_, _≤_, _<_}
+use lib.ListN.{length}
 use Rattle.stamps.specs.declared.Source.{Source}
 use Rattle.stamps.specs.declared.Source.the-variants.{A, B}
 use Rattle.stamps.specs.declared.Item.{Item}
 use Rattle.stamps.specs.Counting.{bit, values}
 use Rattle.stamps.specs.Keys.{itemOf, itemsMatch}
 use Rattle.stamps.specs.Stamps.{inMemory}
-use Rattle.sheets.specs.declared.layout.Told.{Told}
 use Rattle.sheets.specs.Joins.{isPair, times, missing}
-use Rattle.sheets.specs.Layout.{roomOf}
+use Rattle.sheets.specs.Layout.{Told, roomOf}
 use Rattle.sheets.specs.Pairs.{pairsAt}
 use Rattle.calls.specs.Answers.{pairsOf, refused}
 use Rattle.calls.specs.Calls.{After, afterCall, opens}
 use Rattle.calls.specs.Refusals.{bothClosed}
+use Rattle.calls.specs.Rounds.{Lent, again, Rooms, Handed, sayingAt}
 use Rattle.calls.specs.Work.{same}
 use Rattle.calls.specs.World.{World, countOf, rowsOf, seenFrom}
 use Rattle.calls.specs.declared.types.Call.{Call}
-use Rattle.calls.specs.declared.types.Call.the-variants.{Arrive, Evict, Run, Close, Drain}
+use Rattle.calls.specs.declared.types.Call.the-variants.{Arrive, Evict, Run, Close, Drain, Lone}
 use Rattle.calls.specs.declared.types.Why.the-variants.{BadSheet}
 use Rattle.calls.specs.declared.types.Answer.the-variants.{More, Done, Refused}
 
 -- ---- a run of calls
-
--- a call, with the output that it is lent
-pub record Lent : Type 0 where
-  pub call : Call
-  pub out : List ℕ
 
 -- the pairs that a call wrote, read back from its output
 abbrev pub wrote : After → List Told
@@ -60,6 +54,7 @@ offered s (Evict v q) = []
 offered s (Run v q) = []
 offered s (Close v) = []
 offered s Drain = []
+offered s (Lone v) = []
 
 -- those of a run that were not refused, in their order
 abbrev pub accepted : Source → World → List Lent → List Item
@@ -84,30 +79,7 @@ owes w x = bit (isPair (seenFrom A w) x)
 abbrev pub left : World → List Told → List Told
 left w l = missing (seenFrom A w) l
 
--- a drain
-abbrev pub drainOf : List ℕ → Lent
-drainOf o = record { call = Drain; out = o }
-
--- drains one after the other, each with an output of its own
-abbrev pub drainsOf : List (List ℕ) → List Lent
-drainsOf [] = []
-drainsOf (o ∷ os) = drainOf o ∷ drainsOf os
-
--- each of the outputs has room r
-abbrev pub Rooms : ℕ → List (List ℕ) → Type 0
-Rooms r [] = Unit
-Rooms r (o ∷ os) = (roomOf (length o) ≡ r) × Rooms r os
-
--- n / r, rounded up
-abbrev pub ceil : ℕ → ℕ → ℕ
-ceil n r = (n + (r - 1)) / r
-
 -- ---- the demand, at a moment of a run
-
--- a drain that writes the first r of the pairs that are left: min(r, n) of them, and "says Done exactly when none is left"
-pub record Drained (l : List Told) (r : ℕ) (x : After) : Type 0 where
-  pub writes : wrote x ≡ take r l
-  pub says : x .answer ≡ cond (leb (length l) r) Done More (min r (length l))
 
 module _ (start : World) (calls : List Lent) where
   -- the box after these calls
@@ -127,12 +99,11 @@ module _ (start : World) (calls : List Lent) where
     pub prompt : (i j : ℕ) → i < countOf now A → j < countOf now B → inMemory (rowsOf now A i) ≡ true → inMemory (rowsOf now B j) ≡ true
         → itemsMatch (rowsOf now A i .item) (rowsOf now B j .item) ≡ true → times (pairOf now i j) written ≡ 1
     -- c. "with both feeds closed and n matching pairs unwritten, a drain with room r ≥ 1 writes exactly min(r, n)"
-    pub drain : bothClosed (now .session) ≡ true → (o : List ℕ) → 1 ≤ roomOf (length o) → Drained (left now written) (roomOf (length o)) (afterCall now o Drain)
-    -- d. "with room r each time Done comes at drain number ceil(n / r), at the first if n is 0": the drain after `os` has number k + 1, and once
-    -- n - k * r is 0 it answers Done 0
-    pub drains : bothClosed (now .session) ≡ true → (r : ℕ) → 1 ≤ r → (os : List (List ℕ)) → Rooms r os → (o : List ℕ) → roomOf (length o) ≡ r
-        → let n = length (left now written) in let k = length os in
-        afterCall (run now written (drainsOf os) .world) o Drain .answer ≡ cond (leb (ceil n r) (suc k)) Done More (min r (n - k * r))
+    pub drain : bothClosed (now .session) ≡ true → (o : List ℕ) → 1 ≤ roomOf (length o) → let r = afterCall now o Drain in
+        Handed More Done (left now written) (roomOf (length o)) (wrote r) (r .answer)
+    -- d. "with room r each time Done comes at drain number ceil(n / r), at the first if n is 0"
+    pub drains : bothClosed (now .session) ≡ true → (r : ℕ) → 1 ≤ r → (os : List (List ℕ)) → Rooms Drain r os → (o : List ℕ) → roomOf (length o) ≡ r
+        → afterCall (run now written (again Drain os) .world) o Drain .answer ≡ sayingAt More Done r (length (left now written)) (length os)
     -- e. after Done, the pairs written are the matching pairs of the accepted rows, each once
     pub whole : (o : List ℕ) (n : ℕ) → afterCall now o Drain .answer ≡ Done n → (x : Told) → times x (written ++ wrote (afterCall now o Drain)) ≡ owes now x
     -- and no call is ever refused as BadSheet

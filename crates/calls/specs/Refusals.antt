@@ -11,16 +11,17 @@ use Rattle.stamps.specs.declared.Item.{Item}
 use Rattle.stamps.specs.Counting.{tally, allOf}
 use Rattle.stamps.specs.Keys.{inRange, itemOf}
 use Rattle.stamps.specs.Sources.{other}
-use Rattle.sheets.specs.Layout.{rowsNeed, probeNeed}
+use Rattle.sheets.specs.Layout.{rowsNeed, probeNeed, roomOf, singleRoom}
 use Rattle.sheets.specs.Lists.{probedAt}
 use Rattle.sheets.specs.Pairs.{Pair, arrivalPairs, wantedPairs}
 use Rattle.sheets.specs.Rows.{memoryRows, spooled, victim}
 use Rattle.sheets.specs.declared.pairs.Scope.the-variants.{Portion}
 use Rattle.sheets.specs.declared.rows.Largest.{Largest}
 use Rattle.calls.specs.World.{World, pick, countOf, rowsOf, sideOf, seenFrom, flush}
+use Rattle.calls.specs.declared.types.Places.{Places}
 use Rattle.calls.specs.declared.types.Session.{Session}
 use Rattle.calls.specs.declared.types.Call.{Call}
-use Rattle.calls.specs.declared.types.Call.the-variants.{Arrive, Evict, Run, Close, Drain}
+use Rattle.calls.specs.declared.types.Call.the-variants.{Arrive, Evict, Run, Close, Drain, Lone}
 use Rattle.calls.specs.declared.types.Why.{Why}
 use Rattle.calls.specs.declared.types.Why.the-variants.{BadSheet, BadKey, BadPart, Closed, SheetFull, ListFull, StillOpen, RoomShort}
 use Rattle.calls.specs.declared.refusals.Verdict.{Verdict}
@@ -59,13 +60,14 @@ sizeTests p m n a b probe =
 abbrev pub sizesFit : ℕ → ℕ → ℕ → ℕ → ℕ → ℕ → Bool
 sizesFit p m n a b probe = allOf (sizeTests p m n a b probe)
 
--- "a row count above N; clock above 16384; .. position above A rows x B rows"
-abbrev pub numberTests : ℕ → ℕ → ℕ → ℕ → ℕ → List Bool
-numberTests n clock rowsA rowsB next = leb rowsA n ∷ leb rowsB n ∷ leb clock 16384 ∷ leb next (rowsA * rowsB) ∷ []
+-- "a row count above N; clock above 16384; .. position above A rows x B rows", a position of the lone calls "above its row count"
+abbrev pub numberTests : ℕ → ℕ → ℕ → ℕ → ℕ → Places → List Bool
+numberTests n clock rowsA rowsB next lone =
+    leb rowsA n ∷ leb rowsB n ∷ leb clock 16384 ∷ leb next (rowsA * rowsB) ∷ leb (lone .a) rowsA ∷ leb (lone .b) rowsB ∷ []
 
 -- all of these
-abbrev pub numbersFit : ℕ → ℕ → ℕ → ℕ → ℕ → Bool
-numbersFit n clock rowsA rowsB next = allOf (numberTests n clock rowsA rowsB next)
+abbrev pub numbersFit : ℕ → ℕ → ℕ → ℕ → ℕ → Places → Bool
+numbersFit n clock rowsA rowsB next lone = allOf (numberTests n clock rowsA rowsB next lone)
 
 -- "an entry count above 32", of the first n lists
 abbrev pub countsFit : List ℕ → ℕ → Bool
@@ -76,7 +78,7 @@ countsFit counts (suc n) = countsFit counts n && leb (getD counts n 0) 32
 unfoldable pub sessionFits : Session → ℕ → ℕ → ℕ → Bool
 sessionFits t a b probe =
     sizesFit (t .parts) (t .slots) (t .limit) a b probe
-    && (numbersFit (t .limit) (t .clock) (t .a .rows) (t .b .rows) (t .next) && countsFit (t .counts) (2 * t .parts))
+    && (numbersFit (t .limit) (t .clock) (t .a .rows) (t .b .rows) (t .next) (t .lone) && countsFit (t .counts) (2 * t .parts))
 
 -- ---- an arrival
 
@@ -134,7 +136,7 @@ rowChecks t s m a b probe =
 abbrev pub closeChecks : Session → Source → ℕ → ℕ → ℕ → List Check
 closeChecks t s a b probe = check (not (sessionFits t a b probe)) BadSheet ∷ check (pick s (t .a) (t .b) .closed) Closed ∷ []
 
--- a drain: numbers 1, 7 and 8
+-- a drain or a lone call: numbers 1, 7 and 8
 abbrev pub drainChecks : Session → ℕ → ℕ → ℕ → ℕ → List Check
 drainChecks t room a b probe =
     check (not (sessionFits t a b probe)) BadSheet ∷ check (not (bothClosed t)) StillOpen ∷ check (eqb room 0) (RoomShort 1) ∷ []
@@ -151,6 +153,15 @@ tryChecks w s q room = check (leb 32 (length (sideOf w s .list q))) ListFull ∷
 abbrev pub runChecks : World → Source → ℕ → ℕ → List Check
 runChecks w s q room = cond (idle w s q) [] (tryChecks w s q room)
 
+-- the room of an output of so many words: three words a pair, two a row without partner
+abbrev pub roomIn : Call → ℕ → ℕ
+roomIn (Arrive s m) words = roomOf words
+roomIn (Evict s q) words = roomOf words
+roomIn (Run s q) words = roomOf words
+roomIn (Close s) words = roomOf words
+roomIn Drain words = roomOf words
+roomIn (Lone s) words = singleRoom words
+
 -- every call, with the room of its output
 unfoldable pub checks : World → Call → ℕ → List Check
 checks w (Arrive s m) room =
@@ -161,3 +172,4 @@ checks w (Run s q) room =
     portionChecks (w .session) q (length (w .a)) (length (w .b)) (length (w .probe)) ++ runChecks w s q room
 checks w (Close s) room = closeChecks (w .session) s (length (w .a)) (length (w .b)) (length (w .probe))
 checks w Drain room = drainChecks (w .session) room (length (w .a)) (length (w .b)) (length (w .probe))
+checks w (Lone s) room = drainChecks (w .session) room (length (w .a)) (length (w .b)) (length (w .probe))

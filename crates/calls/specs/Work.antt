@@ -55,6 +55,8 @@ pub record Fits (t : Session) (a b probe : ℕ) : Type 0 where
   pub b-few : t .b .rows ≤ t .limit
   pub clock : t .clock ≤ 16384
   pub next : t .next ≤ t .a .rows * t .b .rows
+  pub a-lone : t .lone .a ≤ t .a .rows
+  pub b-lone : t .lone .b ≤ t .b .rows
   pub short : (k : ℕ) → k < 2 * t .parts → getD (t .counts) k 0 ≤ 32
 
 -- what they ask of the rows: a record that passed number 1, and row sheets of these lengths

@@ -10,11 +10,10 @@ use Rattle.stamps.specs.declared.Message.{Message}
 use Rattle.stamps.specs.declared.Row.{Row}
 use Rattle.stamps.specs.Keys.{keyOf, inRange, itemOf, itemsMatch, partOf}
 use Rattle.stamps.specs.Stamps.{alive, presentAt, together, covers, used, doneBefore}
-use Rattle.sheets.specs.Layout.{rowAt, putRow, entryAt, putEntry, pairAt, putPair}
-use Rattle.sheets.specs.declared.layout.Told.{Told}
+use Rattle.sheets.specs.Layout.{Told, rowAt, putRow, entryAt, putEntry, pairAt, putPair}
 use Rattle.sheets.specs.Lists.{entries, listOf, probedAt}
 use Rattle.sheets.specs.Rows.{lay, victim}
-use Rattle.sheets.specs.Pairs.{arrivalPairs, wanted, wantedPairs, pairsFrom, putFrom, pairsAt}
+use Rattle.sheets.specs.Pairs.{arrivalPairs, wanted, wantedPairs, pairsFrom, pairsAt}
 use Rattle.calls.specs.Answers.{pairsOf}
 use Rattle.calls.specs.World.{World, flush, store, note, shut, move}
 use Rattle.calls.specs.Refusals.{verdict, sessionFits, roomFor, checks}
@@ -81,6 +80,7 @@ stage clock a b counts entry rowsA answers pairs = record {
       b = record { rows = 3; closed = false };
       counts = counts;
       next = 0;
+      lone = record { a = 0; b = 0 };
     };
     a = a ++ replicate 15 0;
     b = b ++ replicate 15 0;
@@ -103,21 +103,21 @@ runStage =
     (Taken 0 ∷ Taken 1 ∷ Taken 0 ∷ Taken 1 ∷ Taken 0 ∷ Ran 1 ∷ Ran 0 ∷ Flushed 2 ∷ Taken 0 ∷ []) (told 0 0 12 ∷ told 1 1 13 ∷ told 0 2 12 ∷ [])
 
 fed-is : fed ≡ fedStage
-unfolding fed started keyOf inRange itemOf itemsMatch partOf alive presentAt together covers used doneBefore rowAt putRow entryAt putEntry pairAt putPair entries listOf probedAt lay victim arrivalPairs wanted wantedPairs pairsFrom putFrom flush store note shut move verdict sessionFits roomFor checks joins arrives evicts runs drains effect afterCall ask play
+unfolding fed started keyOf inRange itemOf itemsMatch partOf alive presentAt together covers used doneBefore rowAt putRow entryAt putEntry pairAt putPair entries listOf probedAt lay victim arrivalPairs wanted wantedPairs pairsFrom flush store note shut move verdict sessionFits roomFor checks joins arrives evicts runs drains effect afterCall ask play
 fed-is = refl
 
 run-is : run fedStage ≡ runStage
-unfolding run keyOf inRange itemOf itemsMatch partOf alive presentAt together covers used doneBefore rowAt putRow entryAt putEntry pairAt putPair entries listOf probedAt lay victim arrivalPairs wanted wantedPairs pairsFrom putFrom flush store note shut move verdict sessionFits roomFor checks joins arrives evicts runs drains effect afterCall ask play
+unfolding run keyOf inRange itemOf itemsMatch partOf alive presentAt together covers used doneBefore rowAt putRow entryAt putEntry pairAt putPair entries listOf probedAt lay victim arrivalPairs wanted wantedPairs pairsFrom flush store note shut move verdict sessionFits roomFor checks joins arrives evicts runs drains effect afterCall ask play
 run-is = refl
 
 drained-answers : drained runStage .answers ≡ runStage .answers ++ (Shut ∷ Shut ∷ More 1 ∷ Done 1 ∷ [])
-unfolding drained keyOf inRange itemOf itemsMatch partOf alive presentAt together covers used doneBefore rowAt putRow entryAt putEntry pairAt putPair entries listOf probedAt lay victim arrivalPairs wanted wantedPairs pairsFrom putFrom flush store note shut move verdict sessionFits roomFor checks joins arrives evicts runs drains effect afterCall ask play
+unfolding drained keyOf inRange itemOf itemsMatch partOf alive presentAt together covers used doneBefore rowAt putRow entryAt putEntry pairAt putPair entries listOf probedAt lay victim arrivalPairs wanted wantedPairs pairsFrom flush store note shut move verdict sessionFits roomFor checks joins arrives evicts runs drains effect afterCall ask play
 drained-answers = refl
 
 drained-pairs : drained runStage .pairs ≡ runStage .pairs ++ (told 2 0 12 ∷ told 2 2 12 ∷ [])
-unfolding drained keyOf inRange itemOf itemsMatch partOf alive presentAt together covers used doneBefore rowAt putRow entryAt putEntry pairAt putPair entries listOf probedAt lay victim arrivalPairs wanted wantedPairs pairsFrom putFrom flush store note shut move verdict sessionFits roomFor checks joins arrives evicts runs drains effect afterCall ask play
+unfolding drained keyOf inRange itemOf itemsMatch partOf alive presentAt together covers used doneBefore rowAt putRow entryAt putEntry pairAt putPair entries listOf probedAt lay victim arrivalPairs wanted wantedPairs pairsFrom flush store note shut move verdict sessionFits roomFor checks joins arrives evicts runs drains effect afterCall ask play
 drained-pairs = refl
 
 drained-sheets : (drained runStage .world .a ≡ runStage .world .a) × (drained runStage .world .b ≡ runStage .world .b) × (drained runStage .world .probe ≡ runStage .world .probe)
-unfolding drained keyOf inRange itemOf itemsMatch partOf alive presentAt together covers used doneBefore rowAt putRow entryAt putEntry pairAt putPair entries listOf probedAt lay victim arrivalPairs wanted wantedPairs pairsFrom putFrom flush store note shut move verdict sessionFits roomFor checks joins arrives evicts runs drains effect afterCall ask play
+unfolding drained keyOf inRange itemOf itemsMatch partOf alive presentAt together covers used doneBefore rowAt putRow entryAt putEntry pairAt putPair entries listOf probedAt lay victim arrivalPairs wanted wantedPairs pairsFrom flush store note shut move verdict sessionFits roomFor checks joins arrives evicts runs drains effect afterCall ask play
 drained-sheets = (refl, refl, refl)

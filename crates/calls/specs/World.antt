@@ -11,8 +11,10 @@ use Rattle.stamps.specs.Sources.{other}
 use Rattle.sheets.specs.Layout.{rowAt, putRow, listNo, putEntry}
 use Rattle.sheets.specs.Lists.{listOf}
 use Rattle.sheets.specs.Rows.{portionRows, flushed, lay}
+use Rattle.sheets.specs.Lones.{Items, itemsIn}
 use Rattle.sheets.specs.Pairs.{Side, Table}
 use Rattle.calls.specs.declared.types.Feed.{Feed}
+use Rattle.calls.specs.declared.types.Places.{Places}
 use Rattle.calls.specs.declared.types.Session.{Session}
 
 -- all that a call is given but its arguments and its output
@@ -45,6 +47,10 @@ countOf w s = feedOf w s .rows
 abbrev pub closedOf : World → Source → Bool
 closedOf w s = feedOf w s .closed
 
+-- the position of its lone calls
+abbrev pub placeOf : World → Source → ℕ
+placeOf w s = pick s (w .session .lone .a) (w .session .lone .b)
+
 -- the rows of a source by number
 abbrev pub rowsOf : World → Source → ℕ → Row
 rowsOf w s = rowAt (sheetOf w s)
@@ -57,24 +63,38 @@ sideOf w s = record { count = countOf w s; row = rowsOf w s; list = listOf (w .s
 abbrev pub seenFrom : Source → World → Table
 seenFrom s w = record { parts = w .session .parts; a = sideOf w s; b = sideOf w (other s) }
 
+-- the items of all rows, source s first
+abbrev pub itemsFrom : Source → World → Items
+itemsFrom s w = itemsIn (countOf w s) (countOf w (other s)) (sheetOf w s) (sheetOf w (other s))
+
 -- ---- a field of the record changed
 
 -- the clock
 abbrev pub withClock : ℕ → Session → Session
-withClock c t = record { parts = t .parts; slots = t .slots; limit = t .limit; clock = c; a = t .a; b = t .b; counts = t .counts; next = t .next }
+withClock c t = record { parts = t .parts; slots = t .slots; limit = t .limit; clock = c; a = t .a; b = t .b; counts = t .counts; next = t .next; lone = t .lone }
 
 -- the part of one source
 abbrev pub withFeed : Source → Feed → Session → Session
-withFeed A f t = record { parts = t .parts; slots = t .slots; limit = t .limit; clock = t .clock; a = f; b = t .b; counts = t .counts; next = t .next }
-withFeed B f t = record { parts = t .parts; slots = t .slots; limit = t .limit; clock = t .clock; a = t .a; b = f; counts = t .counts; next = t .next }
+withFeed A f t = record { parts = t .parts; slots = t .slots; limit = t .limit; clock = t .clock; a = f; b = t .b; counts = t .counts; next = t .next; lone = t .lone }
+withFeed B f t = record { parts = t .parts; slots = t .slots; limit = t .limit; clock = t .clock; a = t .a; b = f; counts = t .counts; next = t .next; lone = t .lone }
 
 -- the entry counts
 abbrev pub withCounts : List ℕ → Session → Session
-withCounts l t = record { parts = t .parts; slots = t .slots; limit = t .limit; clock = t .clock; a = t .a; b = t .b; counts = l; next = t .next }
+withCounts l t = record { parts = t .parts; slots = t .slots; limit = t .limit; clock = t .clock; a = t .a; b = t .b; counts = l; next = t .next; lone = t .lone }
 
 -- the drain position
 abbrev pub withNext : ℕ → Session → Session
-withNext k t = record { parts = t .parts; slots = t .slots; limit = t .limit; clock = t .clock; a = t .a; b = t .b; counts = t .counts; next = k }
+withNext k t = record { parts = t .parts; slots = t .slots; limit = t .limit; clock = t .clock; a = t .a; b = t .b; counts = t .counts; next = k; lone = t .lone }
+
+-- the positions of the lone calls
+abbrev pub withLone : Places → Session → Session
+withLone p t =
+    record { parts = t .parts; slots = t .slots; limit = t .limit; clock = t .clock; a = t .a; b = t .b; counts = t .counts; next = t .next; lone = p }
+
+-- that of one source
+abbrev pub withPlace : Source → ℕ → Places → Places
+withPlace A k p = record { a = k; b = p .b }
+withPlace B k p = record { a = p .a; b = k }
 
 -- another record, and another sheet of one source
 abbrev pub withSheet : Source → Session → List ℕ → World → World
@@ -107,3 +127,7 @@ shut s w = record { session = withFeed s (record { rows = countOf w s; closed = 
 -- the drain position moved
 unfoldable pub move : ℕ → World → World
 move k w = record { session = withNext k (w .session); a = w .a; b = w .b; probe = w .probe }
+
+-- the position of a source's lone calls moved
+unfoldable pub pass : Source → ℕ → World → World
+pass s k w = record { session = withLone (withPlace s k (w .session .lone)) (w .session); a = w .a; b = w .b; probe = w .probe }

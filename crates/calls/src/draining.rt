@@ -39,7 +39,7 @@ fn write_owed(
     let written = write_from(job, a, b, probe, &counts, session.next as usize, out, room);
     let mut t = session;
     t.next = written.next as u32;
-    let pairs = written.pairs as u32;
+    let pairs = written.count as u32;
     if written.more {
         return Reply {
             answer: Answer::More(pairs),

@@ -4,6 +4,7 @@ pub mod closing;
 pub mod draining;
 pub mod evicting;
 pub mod feeds;
+pub mod listing;
 pub mod opening;
 pub mod performing;
 pub mod refusals;

@@ -2,6 +2,7 @@
 use crate::refusals::sizes_fit;
 use crate::types::Answer;
 use crate::types::Feed;
+use crate::types::Places;
 use crate::types::Reply;
 use crate::types::Session;
 use crate::types::Why;
@@ -26,6 +27,7 @@ pub fn new_session(parts: u32, slots: u32, limit: u32) -> Session
         b: none,
         counts: [0; 32],
         next: 0,
+        lone: Places { a: 0, b: 0 },
     }
 }
 

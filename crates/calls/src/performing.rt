@@ -3,6 +3,7 @@ use crate::arriving::arrive;
 use crate::closing::close;
 use crate::draining::drain;
 use crate::evicting::evict;
+use crate::listing::lone;
 use crate::running::run;
 use crate::types::Call;
 use crate::types::Reply;
@@ -27,5 +28,6 @@ pub fn perform(
         Call::Run(source, part) => run(session, source, part, a, b, probe, out),
         Call::Close(source) => close(session, source, a, b, probe),
         Call::Drain => drain(session, a, b, probe, out),
+        Call::Lone(source) => lone(session, source, a, b, probe, out),
     }
 }

@@ -1,5 +1,6 @@
 // When the box says no: the checks that need no look at the rows.
 use crate::feeds::feed_of;
+use crate::types::Places;
 use crate::types::Session;
 use crate::types::Why;
 use sheets::layout::probe_need;
@@ -30,11 +31,16 @@ pub fn sizes_fit(parts: u32, slots: u32, limit: u32, a: usize, b: usize, probe: 
         & (lists <= probe)
 }
 
-fn numbers_fit(limit: u32, clock: u32, a_rows: u32, b_rows: u32, next: u32) -> bool
-    ensures { λ r. ⌜ r ≡ numbersFit limit clock «a_rows» «b_rows» next ⌝ }
+fn numbers_fit(limit: u32, clock: u32, a_rows: u32, b_rows: u32, next: u32, lone: Places) -> bool
+    ensures { λ r. ⌜ r ≡ numbersFit limit clock «a_rows» «b_rows» next lone ⌝ }
 {
     let pairs = (a_rows as u64) * (b_rows as u64);
-    (a_rows <= limit) & (b_rows <= limit) & (clock <= 16384) & ((next as u64) <= pairs)
+    (a_rows <= limit)
+        & (b_rows <= limit)
+        & (clock <= 16384)
+        & ((next as u64) <= pairs)
+        & (lone.a <= a_rows)
+        & (lone.b <= b_rows)
 }
 
 // No list of the first so many has more than 32 entries.
@@ -63,6 +69,7 @@ pub fn session_fits(session: Session, a: usize, b: usize, probe: usize) -> bool
             session.a.rows,
             session.b.rows,
             session.next,
+            session.lone,
         ) {
             let counts = session.counts;
             return counts_fit(&counts, 2 * (parts as usize));
@@ -102,7 +109,7 @@ pub fn check_close(session: Session, source: Source, a: usize, b: usize, probe: 
     Verdict::Good
 }
 
-// Numbers 1, 7 and 8, for drain.
+// Numbers 1, 7 and 8, for drain and lone.
 pub fn check_drain(session: Session, room: usize, a: usize, b: usize, probe: usize) -> Verdict
     ensures { λ r. ⌜ r ≡ verdict (drainChecks session room a b probe) ⌝ }
 {

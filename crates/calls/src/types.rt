@@ -8,7 +8,13 @@ pub struct Feed {
     pub closed: bool,
 }
 
-// P, M, N, the clock, the two sources, the entry count of each list by its number, and the drain position.
+// Of each source, the position of its lone calls: the rows up to there have been passed.
+pub struct Places {
+    pub a: u32,
+    pub b: u32,
+}
+
+// P, M, N, the clock, the two sources, the entry count of each list by its number, the drain position, and those of the lone calls.
 pub struct Session {
     pub parts: u32,
     pub slots: u32,
@@ -18,6 +24,7 @@ pub struct Session {
     pub b: Feed,
     pub counts: [u32; 32],
     pub next: u32,
+    pub lone: Places,
 }
 
 pub enum Call {
@@ -26,6 +33,7 @@ pub enum Call {
     Run(Source, u32),
     Close(Source),
     Drain,
+    Lone(Source),
 }
 
 // Why a call is refused. The last two are the program's.
@@ -50,6 +58,8 @@ pub enum Answer {
     Shut,
     More(u32),
     Done(u32),
+    MoreLone(u32),
+    DoneLone(u32),
     Refused(Why),
 }
 

@@ -1,4 +1,4 @@
--- A line's answer names no more pairs than the output has room for, and what is put into the buffer is its reply.
+-- A line's answer lists no more than the output has room for, and what is put into the buffer is its reply.
 -- By cases on what the line asks for. Assumes nothing.
 use mathlib.Core.Path.{_≡_, refl, ap, subst}
 use mathlib.Core.Bool.{Bool, true, false, cond}
@@ -6,37 +6,44 @@ use mathlib.Core.List.{List}
 use Prim.Native.Nat.{ℕ, _≤_}
 use native.Mathlib.Omega.{arith}
 use lib.ListN.{length, take, length-take}
-use Rattle.sheets.specs.Layout.{pairsNeed, roomOf}
-use Rattle.calls.specs.Answers.{pairsOf, refused}
-use Rattle.calls.specs.Calls.{After, opens}
-use Rattle.calls.specs.World.{World}
-use Rattle.calls.specs.declared.types.Call.the-variants.{Drain}
+use Rattle.sheets.specs.Layout.{pairsNeed}
+use Rattle.calls.specs.Answers.{writtenOf, refused}
+use Rattle.calls.specs.Calls.{opens, afterCall}
+use Rattle.calls.specs.Work.{world}
+use Rattle.calls.specs.Refusals.{roomIn}
+use Rattle.calls.specs.declared.types.Call.{Call}
+use Rattle.calls.specs.declared.types.Call.the-variants as call
 use Rattle.calls.specs.declared.types.Reply.{Reply}
 use Rattle.calls.specs.declared.types.Why.the-variants.{NoStart}
-use Rattle.calls.proofs.Laws.{pairs-fit, opens-none}
+use Rattle.calls.proofs.Laws.{written-fits, opens-none}
 use Rattle.lines.specs.declared.answering.Outcome.{Outcome}
 use Rattle.lines.specs.declared.answering.State.{State}
 use Rattle.lines.specs.declared.gathering.Gathered.{Gathered}
-use Rattle.lines.specs.Answering.{Turn, turned, refuses, goesOn, begins, went, asks, drainsIn, turnOf, replied, answered, silent, Says}
+use Rattle.lines.specs.Answering.{Turn, turned, refuses, goesOn, begins, went, asks, asksIn, turnOf, replied, answered, silent, Says}
 use Rattle.lines.specs.Gathering.{Held}
 use Rattle.lines.specs.Printing.{Put, replyMost, replyText}
 use Rattle.lines.specs.Reading.{roomMost, readLine}
 use Rattle.lines.specs.Serving.{Serves}
 use Rattle.lines.proofs.PrintTurns.{put-none}
 
--- ---- the pairs of an answer
+-- ---- what an answer lists
 
-asks-fits : (t : State) (a b probe o : List ℕ) (x : After) (room : ℕ) → pairsOf (x .answer) ≤ room → pairsOf (asks t a b probe o x .told .answer) ≤ room
+asks-fits : (c : Call) (t : State) (a b probe o : List ℕ) → writtenOf (asks c t a b probe o .told .answer) ≤ roomIn c (length o)
 unfolding asks
-asks-fits t a b probe o x room h = go (t .started)
+asks-fits c t a b probe o = go (t .started)
   where
-    go : (u : Bool) → pairsOf ((cond u (went x) (turned (refuses NoStart t) a b probe o)) .told .answer) ≤ room
-    go true = h
+    go : (u : Bool) → writtenOf ((cond u (went (afterCall (world (t .session) a b probe) o c)) (turned (refuses NoStart t) a b probe o)) .told .answer) ≤ roomIn c (length o)
+    go true = written-fits (world (t .session) a b probe) o c
     go false = omega arith
 
-pub drains-fits : (room : ℕ) (w : World) (o : List ℕ) → pairsOf (drainsIn room w o .answer) ≤ roomOf (length o)
-unfolding drainsIn
-drains-fits room w o = omega (arith, pairs-fit w (take (pairsNeed room) o) Drain, length-take (pairsNeed room) o)
+-- fewer words have no more room
+room-less : (c : Call) (m n : ℕ) → m ≤ n → roomIn c m ≤ roomIn c n
+room-less (call.Arrive s m′) m n h = omega arith
+room-less (call.Evict s q) m n h = omega arith
+room-less (call.Run s q) m n h = omega arith
+room-less (call.Close s) m n h = omega arith
+room-less call.Drain m n h = omega arith
+room-less (call.Lone s) m n h = omega arith
 
 begins-answer : (t : State) (r : Reply) → begins t r .answer ≡ r .answer
 begins-answer t r = go (refused (r .answer))
@@ -46,12 +53,19 @@ begins-answer t r = go (refused (r .answer))
     go false = refl
 
 -- the same of what the functions hand back
-pub begun-fits : (t : State) (p m n a b probe : ℕ) (r : Outcome) → r ≡ begins t (opens p m n a b probe) → pairsOf (r .answer) ≤ roomMost
-begun-fits t p m n a b probe r e = omega (arith, ap (λ (x : Outcome). pairsOf (x .answer)) e, ap pairsOf (begins-answer t (opens p m n a b probe)), opens-none p m n a b probe)
+pub begun-fits : (t : State) (p m n a b probe : ℕ) (r : Outcome) → r ≡ begins t (opens p m n a b probe) → writtenOf (r .answer) ≤ roomMost
+begun-fits t p m n a b probe r e = omega (arith, ap (λ (x : Outcome). writtenOf (x .answer)) e, ap writtenOf (begins-answer t (opens p m n a b probe)), opens-none p m n a b probe)
 
-pub asked-fits : (t : State) (a b probe o : List ℕ) (x : After) (r : Outcome) (a′ b′ probe′ o′ : List ℕ) → turned r a′ b′ probe′ o′ ≡ asks t a b probe o x
-    → pairsOf (x .answer) ≤ roomOf (length o) → length o ≡ pairsNeed roomMost → pairsOf (r .answer) ≤ roomMost
-asked-fits t a b probe o x r a′ b′ probe′ o′ e k h = omega (arith, asks-fits t a b probe o x (roomOf (length o)) k, h, ap (λ (y : Turn). pairsOf (y .told .answer)) e)
+pub asked-fits : (c : Call) (t : State) (a b probe o : List ℕ) (r : Outcome) (a′ b′ probe′ o′ : List ℕ) → turned r a′ b′ probe′ o′ ≡ asks c t a b probe o
+    → length o ≡ pairsNeed roomMost → roomIn c (pairsNeed roomMost) ≤ roomMost → writtenOf (r .answer) ≤ roomMost
+asked-fits c t a b probe o r a′ b′ probe′ o′ e n h =
+    omega (arith, asks-fits c t a b probe o, room-less c (length o) (pairsNeed roomMost) (omega (arith, n)), h, ap (λ (y : Turn). writtenOf (y .told .answer)) e)
+
+pub asked-in-fits : (words : ℕ) (c : Call) (t : State) (a b probe o : List ℕ) (r : Outcome) (a′ b′ probe′ o′ : List ℕ) → turned r a′ b′ probe′ o′ ≡ asksIn words c t a b probe o
+    → roomIn c words ≤ roomMost → writtenOf (r .answer) ≤ roomMost
+unfolding asksIn
+asked-in-fits words c t a b probe o r a′ b′ probe′ o′ e h = let k : length (take words o) ≤ words = omega (arith, length-take words o) in
+    omega (arith, asks-fits c t a b probe (take words o), room-less c (length (take words o)) words k, h, ap (λ (y : Turn). writtenOf (y .told .answer)) e)
 
 -- ---- what the functions hand back
 

@@ -1,6 +1,6 @@
 -- What the layers above may know of lines: where the input is cut does not matter, a line in its buffer reads as the whole line,
 -- a printed number reads back, and each promise allows one result. By induction on the bytes. Assumes nothing.
-use mathlib.Core.Path.{_≡_, refl, sym, ap, _∙_}
+use mathlib.Core.Path.{_≡_, refl, sym, ap, _∙_, subst}
 use mathlib.Core.Bool.{Bool, true, false, cond}
 use mathlib.Core.List.{List, [], _∷_, _++_, append-assoc}
 use Prim.Native.Nat.{ℕ, zero, suc, _+_, _-_, _*_, _/_, _%_, _^_, _≤_, _<_, min}
@@ -12,14 +12,16 @@ use lib.ListN.{length, take, drop, set, length-append, length-set}
 use lib.Seq.{take-all, take-suc-set, take-append-le, length-take-le, drop-drop}
 use borrow.Author.Tests.{ltb-true, ltb-false, leb-true, leb-false, le-leb}
 use Rattle.stamps.specs.declared.Source.{Source}
+use Rattle.sheets.specs.Layout.{pairsNeed}
+use Rattle.calls.specs.Refusals.{roomIn}
 use Rattle.lines.specs.declared.answering.State.{State}
 use Rattle.lines.specs.declared.gathering.Gathered.{Gathered}
 use Rattle.lines.specs.declared.numbers.Number.{Number}
 use Rattle.lines.specs.declared.numbers.Number.the-variants as number
 use Rattle.lines.specs.declared.reading.Line.{Line}
 use Rattle.lines.specs.declared.reading.Line.the-variants as line
-use Rattle.lines.specs.declared.reading.Portion.{Portion}
-use Rattle.lines.specs.declared.reading.Portion.the-variants as portion
+use Rattle.lines.specs.declared.reading.Sourced.{Sourced}
+use Rattle.lines.specs.declared.reading.Sourced.the-variants as sourced
 use Rattle.lines.specs.declared.serving.Served.{Served}
 use Rattle.lines.specs.declared.words.Side.{Side}
 use Rattle.lines.specs.declared.words.Side.the-variants as side
@@ -30,7 +32,7 @@ use Rattle.lines.specs.Fields.{fields, fieldAt}
 use Rattle.lines.specs.Gathering.{isLF, Cut, only, before, cut, linesFrom, lineMost, keptLen, keptLine, Held, held, gather, Took}
 use Rattle.lines.specs.Numbers.{isDigit, digitsFrom}
 use Rattle.lines.specs.Printing.{Put, digitsUp, numberMost, decimal}
-use Rattle.lines.specs.Reading.{numberAt, sideAt, start, arrive, portionOf, evict, run, close, drain, startLine, arriveLine, closeLine, drainLine, lineOf, readLine}
+use Rattle.lines.specs.Reading.{numberAt, sideAt, start, arrive, sourcedOf, evict, run, close, roomMost, roomed, drain, lone, startLine, arriveLine, closeLine, drainLine, lineOf, readLine}
 use Rattle.lines.specs.Serving.{Serves}
 use Rattle.lines.specs.Words.{wordOf}
 
@@ -196,12 +198,13 @@ pub serves-one-result : {g : Held} {t : State} {a b probe o d : List ℕ} {r r�
 serves-one-result x y = let (t, n, a, b, probe, o, e) = says-one-result (x .says) (y .says) in
     (λ i. record { state = t i; have = (x .have ∙ sym (y .have)) i; next = (x .next ∙ sym (y .next)) i; bytes = n i }, x .line ∙ sym (y .line), a, b, probe, o, e)
 
--- ---- a drain names a room of at most 512
+-- ---- what a line asks for has a room of at most 512: the one that it names, or that of the whole output
 
 abbrev pub RoomFits : Line → Type 0
 RoomFits (line.Start p m n) = Unit
-RoomFits (line.Ask x) = Unit
-RoomFits (line.Drain room) = room ≤ 512
+RoomFits (line.Ask c) = roomIn c (pairsNeed roomMost) ≤ roomMost
+RoomFits (line.Drain room) = room ≤ roomMost
+RoomFits (line.Lone s room) = room ≤ roomMost
 RoomFits line.Bad = Unit
 
 start-fits : (p m n : Number) → RoomFits (start p m n)
@@ -211,29 +214,36 @@ start-fits (number.Value p) number.Bad n = tt
 start-fits number.Bad m n = tt
 
 arrive-fits : (s : Source) (car lap : Number) → RoomFits (arrive s car lap)
-arrive-fits s (number.Value car) (number.Value lap) = tt
+arrive-fits s (number.Value car) (number.Value lap) = omega arith
 arrive-fits s (number.Value car) number.Bad = tt
 arrive-fits s number.Bad lap = tt
 
-evict-fits : (p : Portion) → RoomFits (evict p)
-evict-fits (portion.Of s p) = tt
-evict-fits portion.Bad = tt
+evict-fits : (p : Sourced) → RoomFits (evict p)
+evict-fits (sourced.Of s p) = omega arith
+evict-fits sourced.Bad = tt
 
-run-fits : (p : Portion) → RoomFits (run p)
-run-fits (portion.Of s p) = tt
-run-fits portion.Bad = tt
+run-fits : (p : Sourced) → RoomFits (run p)
+run-fits (sourced.Of s p) = omega arith
+run-fits sourced.Bad = tt
 
 close-fits : (x : Side) → RoomFits (close x)
-close-fits (side.Of s) = tt
+close-fits (side.Of s) = omega arith
 close-fits side.Neither = tt
 
-drain-fits : (x : Number) → RoomFits (drain x)
-drain-fits (number.Value room) = go (leb room 512) refl
+roomed-fits : (room : ℕ) (x : Line) → (room ≤ roomMost → RoomFits x) → RoomFits (roomed room x)
+roomed-fits room x h = go (leb room roomMost) refl
   where
-    go : (u : Bool) → leb room 512 ≡ u → RoomFits (cond u (line.Drain room) line.Bad)
-    go true e = leb-true room 512 e
+    go : (u : Bool) → leb room roomMost ≡ u → RoomFits (cond u x line.Bad)
+    go true e = h (leb-true room roomMost e)
     go false e = tt
+
+drain-fits : (x : Number) → RoomFits (drain x)
+drain-fits (number.Value room) = roomed-fits room (line.Drain room) (λ h. h)
 drain-fits number.Bad = tt
+
+lone-fits : (p : Sourced) → RoomFits (lone p)
+lone-fits (sourced.Of s room) = roomed-fits room (line.Lone s room) (λ h. h)
+lone-fits sourced.Bad = tt
 
 -- a test passed or not: what says nothing fits
 fits-if : (u : Bool) (x : Line) → RoomFits x → RoomFits (cond u x line.Bad)
@@ -244,12 +254,17 @@ line-fits : (w : Word) (fs : List (List ℕ)) → RoomFits (lineOf w fs)
 unfolding startLine arriveLine closeLine drainLine
 line-fits word.Start fs = fits-if (eqb (length fs) 4) _ (start-fits (numberAt fs 1) (numberAt fs 2) (numberAt fs 3))
 line-fits (word.Arrive s) fs = fits-if (eqb (length fs) 3) _ (arrive-fits s (numberAt fs 1) (numberAt fs 2))
-line-fits word.Evict fs = evict-fits (portionOf fs)
-line-fits word.Run fs = run-fits (portionOf fs)
+line-fits word.Evict fs = evict-fits (sourcedOf fs)
+line-fits word.Run fs = run-fits (sourcedOf fs)
 line-fits word.Close fs = fits-if (eqb (length fs) 2) _ (close-fits (sideAt fs 1))
 line-fits word.Drain fs = fits-if (eqb (length fs) 2) _ (drain-fits (numberAt fs 1))
+line-fits word.Lone fs = lone-fits (sourcedOf fs)
 line-fits word.Unknown fs = tt
 
 pub room-fits : (l : List ℕ) → RoomFits (readLine l)
 unfolding readLine
 room-fits l = fits-if (leb (length l) 80) _ (line-fits (wordOf (fieldAt l 0)) (fields l))
+
+-- the same of a line that was read
+pub read-fits : (l : List ℕ) {x y : Line} → x ≡ readLine l → x ≡ y → RoomFits y
+read-fits l e f = subst RoomFits (sym e ∙ f) (room-fits l)

@@ -1,17 +1,18 @@
 -- Texts put into a buffer one after the other: the pieces make the whole, and a loop is known by the text that is left.
 -- Assumes nothing.
 use mathlib.Core.Path.{_≡_, refl, sym, ap, _∙_}
-use mathlib.Core.List.{List, [], _∷_, _++_}
-use Prim.Native.Nat.{ℕ, zero, suc, _+_, _-_, _/_, _%_, _≤_, _<_}
-use native.Mathlib.Nat.{add-zero}
+use mathlib.Core.List.{List, [], _∷_, _++_, map}
+use Prim.Native.Nat.{ℕ, zero, suc, _+_, _-_, _*_, _/_, _%_, _≤_, _<_}
+use native.Mathlib.Nat.{add-zero, mul-le-mul-left}
 use native.Mathlib.Omega.{arith}
 use native.Mathlib.Numerals.{add-one}
-use lib.ListN.{length, set, length-set, length-append}
+use lib.ListN.{length, take, drop, set, length-set, length-append}
 use lib.Seq.{sets}
 use borrow.Author.Tests.{lt-ltb, le-ltb}
-use Rattle.sheets.specs.Layout.{pairAt}
-use Rattle.sheets.specs.Pairs.{pairsAt}
-use Rattle.lines.specs.Printing.{Put, digitsUp, pairText, pairsText}
+use Rattle.sheets.specs.Layout.Laws.{pair-read, single-read}
+use Rattle.sheets.specs.Layout.{pairsNeed, pairAt, pairWords, singlesNeed, singleAt, singleWords}
+use Rattle.sheets.specs.Rooms.{readAll}
+use Rattle.lines.specs.Printing.{Put, digitsUp, lineText, linesText, wordsAt, rowsIn}
 
 -- ---- pieces
 
@@ -76,11 +77,34 @@ unfolding digitsUp
 digits-more zero n z h = absurd (z refl)
 digits-more (suc k) n z h = let q : suc k - 1 ≡ k = omega arith in rw (le-ltb n 10 h, q)
 
--- ---- pairs
+-- ---- lines of an output
 
--- what is left of the pairs is the next one and what is left behind it
-pub pairs-left : (o : List ℕ) (i n : ℕ) → i < n → pairsText (pairsAt o i (n - i)) ≡ pairText (pairAt o i) ++ pairsText (pairsAt o (i + 1) (n - (i + 1)))
-pairs-left o i n h = let q : n - i ≡ suc (n - (i + 1)) = omega arith in rw (q, add-one i)
+-- what is left of the lines is the next one and what is left behind it
+pub lines-left : (word : List ℕ) (width : ℕ) (o : List ℕ) (i n : ℕ) → i < n
+    → linesText word (rowsIn width o i (n - i)) ≡ lineText word (wordsAt width o i) ++ linesText word (rowsIn width o (i + 1) (n - (i + 1)))
+lines-left word width o i n h = let q : n - i ≡ suc (n - (i + 1)) = omega arith in rw (q, add-one i)
 
-pub pairs-none : (o : List ℕ) (i n : ℕ) → n ≤ i → pairsText (pairsAt o i (n - i)) ≡ []
-pairs-none o i n h = let q : n - i ≡ 0 = omega arith in rw q
+pub lines-none : (word : List ℕ) (width : ℕ) (o : List ℕ) (i n : ℕ) → n ≤ i → linesText word (rowsIn width o i (n - i)) ≡ []
+lines-none word width o i n h = let q : n - i ≡ 0 = omega arith in rw q
+
+-- a row's words, lent as a part of the output
+pub row-words : (width : ℕ) (o : List ℕ) (i : ℕ) → take (width * i + width - width * i) (drop (width * i) o) ≡ wordsAt width o i
+row-words width o i = let q : width * i + width - width * i ≡ width = omega arith in ap (λ (k : ℕ). take k (drop (width * i) o)) q
+
+-- the rows before n are words of the output
+pub row-fits : (width i n : ℕ) → i < n → width * i + width ≤ width * n
+row-fits width i n h = omega (arith, mul-le-mul-left width h)
+
+-- ---- the rows of an output are what it holds
+
+module _ {Y : Type 0} (width : ℕ) (at : List ℕ → ℕ → Y) (numbers : Y → List ℕ) (o : List ℕ) (is : (w : ℕ) → width * w + width ≤ length o → wordsAt width o w ≡ numbers (at o w)) where
+  rows-are : (w n : ℕ) → width * (w + n) ≤ length o → rowsIn width o w n ≡ map numbers (readAll at o w n)
+  rows-are w zero h = refl
+  rows-are w (suc n) h = let f : width * w + width ≤ length o = omega (arith, row-fits width w (w + suc n) (omega arith)) in
+      let k : width * (suc w + n) ≤ length o = omega arith in rw (is w f, rows-are (suc w) n k)
+
+pub pairs-are : (o : List ℕ) (n : ℕ) → pairsNeed n ≤ length o → rowsIn 3 o 0 n ≡ map pairWords (readAll pairAt o 0 n)
+pairs-are o n h = rows-are 3 pairAt pairWords o (λ w b. pair-read o w (omega arith)) 0 n (omega arith)
+
+pub singles-are : (o : List ℕ) (n : ℕ) → singlesNeed n ≤ length o → rowsIn 2 o 0 n ≡ map singleWords (readAll singleAt o 0 n)
+singles-are o n h = rows-are 2 singleAt singleWords o (λ w b. single-read o w (omega arith)) 0 n (omega arith)

@@ -4,12 +4,12 @@ use mathlib.Core.Bool.{true, false, cond}
 use mathlib.Core.List.{List, [], _++_}
 use Prim.Native.Nat.{ℕ, _≤_}
 use lib.ListN.{length, take, drop}
-use Rattle.sheets.specs.Layout.{pairsNeed}
+use Rattle.sheets.specs.Layout.{pairsNeed, singlesNeed}
 use Rattle.calls.specs.Answers.{refused}
-use Rattle.calls.specs.Calls.{After, after, fresh, opens, afterCall}
+use Rattle.calls.specs.Calls.{After, fresh, opens, afterCall}
 use Rattle.calls.specs.Work.{world}
-use Rattle.calls.specs.World.{World}
 use Rattle.calls.specs.declared.types.Answer.the-variants as answer
+use Rattle.calls.specs.declared.types.Call.{Call}
 use Rattle.calls.specs.declared.types.Call.the-variants as call
 use Rattle.calls.specs.declared.types.Reply.{Reply}
 use Rattle.calls.specs.declared.types.Session.{Session}
@@ -62,19 +62,20 @@ begins t r = cond (refused (r .answer)) (record { answer = r .answer; state = t 
 abbrev pub went : After → Turn
 went x = turned (goesOn (record { answer = x .answer; session = x .world .session })) (x .world .a) (x .world .b) (x .world .probe) (x .out)
 
--- "NoStart: .. a good line other than START before any accepted START"
-unfoldable pub asks : State → List ℕ → List ℕ → List ℕ → List ℕ → After → Turn
-asks t a b probe o x = cond (t .started) (went x) (turned (refuses NoStart t) a b probe o)
+-- a call in a session; "NoStart: .. a good line other than START before any accepted START"
+unfoldable pub asks : Call → State → List ℕ → List ℕ → List ℕ → List ℕ → Turn
+asks c t a b probe o = cond (t .started) (went (afterCall (world (t .session) a b probe) o c)) (turned (refuses NoStart t) a b probe o)
 
--- "DRAIN uses the room it names": the words behind that room stay
-unfoldable pub drainsIn : ℕ → World → List ℕ → After
-drainsIn room w o = let x = afterCall w (take (pairsNeed room) o) call.Drain in after (x .answer) (x .world) (x .out ++ drop (pairsNeed room) o)
+-- "DRAIN uses the room it names", and so does LONE: the call is lent the first words of the output, and those behind them stay
+unfoldable pub asksIn : ℕ → Call → State → List ℕ → List ℕ → List ℕ → List ℕ → Turn
+asksIn words c t a b probe o = let x = asks c t a b probe (take words o) in turned (x .told) (x .a) (x .b) (x .probe) (x .out ++ drop words o)
 
 -- "BadLine is tested before NoStart"
 abbrev pub turnOf : Line → State → List ℕ → List ℕ → List ℕ → List ℕ → Turn
 turnOf (line.Start p m n) t a b probe o = turned (begins t (opens p m n (length a) (length b) (length probe))) a b probe o
-turnOf (line.Ask c) t a b probe o = asks t a b probe o (afterCall (world (t .session) a b probe) o c)
-turnOf (line.Drain room) t a b probe o = asks t a b probe o (drainsIn room (world (t .session) a b probe) o)
+turnOf (line.Ask c) t a b probe o = asks c t a b probe o
+turnOf (line.Drain room) t a b probe o = asksIn (pairsNeed room) call.Drain t a b probe o
+turnOf (line.Lone s room) t a b probe o = asksIn (singlesNeed room) (call.Lone s) t a b probe o
 turnOf line.Bad t a b probe o = turned (refuses BadLine t) a b probe o
 
 -- ---- the reply
@@ -92,7 +93,7 @@ pub record Left : Type 0 where
 abbrev pub left : State → List ℕ → List ℕ → List ℕ → List ℕ → List ℕ → Left
 left t a b probe o text = record { state = t; a = a; b = b; probe = probe; out = o; text = text }
 
--- a turn, and its reply: "the pairs .. then" the answer
+-- a turn, and its reply
 abbrev pub replied : Turn → Left
 replied x = left (x .told .state) (x .a) (x .b) (x .probe) (x .out) (replyText (x .out) (x .told .answer))
 

@@ -14,8 +14,8 @@ use Rattle.lines.specs.declared.words.Word.{Word}
 use Rattle.lines.specs.declared.words.Word.the-variants as word
 use Rattle.lines.specs.declared.reading.Line.{Line}
 use Rattle.lines.specs.declared.reading.Line.the-variants as line
-use Rattle.lines.specs.declared.reading.Portion.{Portion}
-use Rattle.lines.specs.declared.reading.Portion.the-variants as portion
+use Rattle.lines.specs.declared.reading.Sourced.{Sourced}
+use Rattle.lines.specs.declared.reading.Sourced.the-variants as sourced
 use Rattle.lines.specs.Fields.{fields, fieldAt}
 use Rattle.lines.specs.Numbers.{numberOf}
 use Rattle.lines.specs.Words.{sideOf, wordOf}
@@ -57,33 +57,33 @@ arrive s number.Bad lap = line.Bad
 unfoldable pub arriveLine : Source → List (List ℕ) → Line
 arriveLine s fs = ofCount 3 fs (arrive s (numberAt fs 1) (numberAt fs 2))
 
--- a portion, where both are what they should be
-abbrev pub pick : Side → Number → Portion
-pick (side.Of s) (number.Value p) = portion.Of s p
-pick (side.Of s) number.Bad = portion.Bad
-pick side.Neither p = portion.Bad
+-- a source and a number, where both are what they should be
+abbrev pub pick : Side → Number → Sourced
+pick (side.Of s) (number.Value p) = sourced.Of s p
+pick (side.Of s) number.Bad = sourced.Bad
+pick side.Neither p = sourced.Bad
 
--- "source,partition" after a word
-unfoldable pub portionOf : List (List ℕ) → Portion
-portionOf fs = cond (eqb (length fs) 3) (pick (sideAt fs 1) (numberAt fs 2)) portion.Bad
+-- "source,partition" or "source,room" after a word
+unfoldable pub sourcedOf : List (List ℕ) → Sourced
+sourcedOf fs = cond (eqb (length fs) 3) (pick (sideAt fs 1) (numberAt fs 2)) sourced.Bad
 
 -- a portion to evict
-abbrev pub evict : Portion → Line
-evict (portion.Of s p) = line.Ask (call.Evict s p)
-evict portion.Bad = line.Bad
+abbrev pub evict : Sourced → Line
+evict (sourced.Of s p) = line.Ask (call.Evict s p)
+evict sourced.Bad = line.Bad
 
 -- "EVICT,source,partition"
 abbrev pub evictLine : List (List ℕ) → Line
-evictLine fs = evict (portionOf fs)
+evictLine fs = evict (sourcedOf fs)
 
 -- a portion to run
-abbrev pub run : Portion → Line
-run (portion.Of s p) = line.Ask (call.Run s p)
-run portion.Bad = line.Bad
+abbrev pub run : Sourced → Line
+run (sourced.Of s p) = line.Ask (call.Run s p)
+run sourced.Bad = line.Bad
 
 -- "RUN,source,partition"
 abbrev pub runLine : List (List ℕ) → Line
-runLine fs = run (portionOf fs)
+runLine fs = run (sourcedOf fs)
 
 -- a source to close
 abbrev pub close : Side → Line
@@ -98,14 +98,27 @@ closeLine fs = ofCount 2 fs (close (sideAt fs 1))
 abbrev pub roomMost : ℕ
 roomMost = 512
 
--- "DRAIN with more than 512" is BadLine
+-- "with more than 512" is BadLine
+abbrev pub roomed : ℕ → Line → Line
+roomed room says = cond (leb room roomMost) says line.Bad
+
+-- a drain with its room
 abbrev pub drain : Number → Line
-drain (number.Value room) = cond (leb room roomMost) (line.Drain room) line.Bad
+drain (number.Value room) = roomed room (line.Drain room)
 drain number.Bad = line.Bad
 
 -- "DRAIN,room"
 unfoldable pub drainLine : List (List ℕ) → Line
 drainLine fs = ofCount 2 fs (drain (numberAt fs 1))
+
+-- a source whose rows without partner are listed, with the room for them
+abbrev pub lone : Sourced → Line
+lone (sourced.Of s room) = roomed room (line.Lone s room)
+lone sourced.Bad = line.Bad
+
+-- "LONE,source,room"
+abbrev pub loneLine : List (List ℕ) → Line
+loneLine fs = lone (sourcedOf fs)
 
 -- ---- a line
 
@@ -117,6 +130,7 @@ lineOf word.Evict fs = evictLine fs
 lineOf word.Run fs = runLine fs
 lineOf word.Close fs = closeLine fs
 lineOf word.Drain fs = drainLine fs
+lineOf word.Lone fs = loneLine fs
 lineOf word.Unknown fs = line.Bad
 
 -- "At most 80 bytes before the LF"; the first field is the word

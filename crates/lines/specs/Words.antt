@@ -39,6 +39,10 @@ CLOSE = 67 ∷ 76 ∷ 79 ∷ 83 ∷ 69 ∷ []
 abbrev pub DRAIN : List ℕ
 DRAIN = 68 ∷ 82 ∷ 65 ∷ 73 ∷ 78 ∷ []
 
+-- "LONE"
+abbrev pub LONE : List ℕ
+LONE = 76 ∷ 79 ∷ 78 ∷ 69 ∷ []
+
 -- ---- reading them
 
 -- the same bytes
@@ -57,7 +61,7 @@ abbrev pub arrival : Side → Word
 arrival (side.Of s) = word.Arrive s
 arrival side.Neither = word.Unknown
 
--- "The first field is one of the words START, A, B, EVICT, RUN, CLOSE, DRAIN"
+-- "The first field is one of the words START, A, B, EVICT, RUN, CLOSE, DRAIN", and LONE
 unfoldable pub wordOf : List ℕ → Word
 wordOf f =
     cond (same f START) word.Start
@@ -65,4 +69,5 @@ wordOf f =
     (cond (same f RUN) word.Run
     (cond (same f CLOSE) word.Close
     (cond (same f DRAIN) word.Drain
-    (arrival (sideOf f))))))
+    (cond (same f LONE) word.Lone
+    (arrival (sideOf f)))))))

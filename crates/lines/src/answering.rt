@@ -3,7 +3,6 @@ use crate::printing::put_reply;
 use crate::reading::Line;
 use crate::reading::ROOM;
 use crate::reading::read_line;
-use calls::draining::drain;
 use calls::opening::new_session;
 use calls::opening::open;
 use calls::performing::perform;
@@ -14,20 +13,18 @@ use calls::types::Session;
 use calls::types::Why;
 use sheets::layout::PAIR;
 use sheets::layout::pairs_need;
+use sheets::layout::singles_need;
 ghost use mathlib.Core.Path.{_≡_};
 ghost use Prim.Native.Nat.{_≤_};
 ghost use lib.ListN.{length};
-ghost use Rattle.sheets.specs.Layout.{pairsNeed};
-ghost use Rattle.calls.specs.Answers.{pairsOf, refused};
-ghost use Rattle.calls.specs.Calls.{afterCall};
-ghost use Rattle.calls.specs.Work.{world};
+ghost use Rattle.calls.specs.Answers.{writtenOf, refused};
 ghost use Rattle.lines.specs.Reading.{roomMost, readLine};
-ghost use Rattle.lines.specs.Answering.{unstarted, goesOn, begins, turned, asks, drainsIn, turnOf, answered, Says};
+ghost use Rattle.lines.specs.Answering.{unstarted, goesOn, begins, turned, asks, asksIn, turnOf, answered, Says};
 
 // The words of the output.
 pub const OUTPUT: usize = ROOM as usize * PAIR;
 
-// The bytes of the longest reply: 38 for each pair, and 25 for the answer.
+// The bytes of the longest reply: 38 for each pair, which a row without partner does not use up, and 25 for the answer.
 pub const REPLY: usize = 38 * ROOM as usize + 25;
 
 // Whether a START was accepted, and the session that it began.
@@ -69,6 +66,8 @@ fn is_refused(answer: Answer) -> bool
         Answer::Shut => false,
         Answer::More(_) => false,
         Answer::Done(_) => false,
+        Answer::MoreLone(_) => false,
+        Answer::DoneLone(_) => false,
         Answer::Refused(_) => true,
     }
 }
@@ -108,7 +107,7 @@ fn ask(
     probe: &mut [u32],
     out: &mut [u32],
 ) -> Outcome
-    ensures { λ r. ⌜ turned r (now (a .exit)) (now (b .exit)) (now (probe .exit)) (now (out .exit)) ≡ asks state (now (a .entry)) (now (b .entry)) (now (probe .entry)) (now (out .entry)) (afterCall (world (state .session) (now (a .entry)) (now (b .entry)) (now (probe .entry))) (now (out .entry)) call) ⌝ }
+    ensures { λ r. ⌜ turned r (now (a .exit)) (now (b .exit)) (now (probe .exit)) (now (out .exit)) ≡ asks call state (now (a .entry)) (now (b .entry)) (now (probe .entry)) (now (out .entry)) ⌝ }
 {
     let started = state.started;
     if !started {
@@ -121,31 +120,23 @@ fn ask(
     go_on(perform(session, call, a, b, probe, out))
 }
 
-// The same of a drain, which is lent the first words of the output, those of the room that it names.
-fn ask_drain(
+// The same of a call that is lent the first words of the output.
+fn ask_in(
     state: State,
-    room: u32,
-    a: &[u32],
-    b: &[u32],
-    probe: &[u32],
+    call: Call,
+    words: usize,
+    a: &mut [u32],
+    b: &mut [u32],
+    probe: &mut [u32],
     out: &mut [u32],
 ) -> Outcome
-    requires { ⌜ pairsNeed room ≤ length (now out) ⌝ }
-    ensures { λ r. ⌜ turned r (now (a .entry)) (now (b .entry)) (now (probe .entry)) (now (out .exit)) ≡ asks state (now (a .entry)) (now (b .entry)) (now (probe .entry)) (now (out .entry)) (drainsIn room (world (state .session) (now (a .entry)) (now (b .entry)) (now (probe .entry))) (now (out .entry))) ⌝ }
+    requires { ⌜ words ≤ length (now out) ⌝ }
+    ensures { λ r. ⌜ turned r (now (a .exit)) (now (b .exit)) (now (probe .exit)) (now (out .exit)) ≡ asksIn words call state (now (a .entry)) (now (b .entry)) (now (probe .entry)) (now (out .entry)) ⌝ }
 {
-    let started = state.started;
-    if !started {
-        return Outcome {
-            answer: Answer::Refused(Why::NoStart),
-            state,
-        };
-    }
-    let session = state.session;
-    let words = pairs_need(room);
-    go_on(drain(session, a, b, probe, &mut out[..words]))
+    ask(state, call, a, b, probe, &mut out[..words])
 }
 
-// What a line is told. It answers with no more pairs than the output has room for.
+// What a line is told. It lists no more than the output has room for pairs.
 fn respond(
     state: State,
     line: &[u8],
@@ -154,12 +145,23 @@ fn respond(
     probe: &mut [u32],
     out: &mut [u32; OUTPUT],
 ) -> Outcome
-    ensures { λ r. ⌜ (turned r (now (a .exit)) (now (b .exit)) (now (probe .exit)) (now (out .exit)) ≡ turnOf (readLine (now (line .entry))) state (now (a .entry)) (now (b .entry)) (now (probe .entry)) (now (out .entry))) × (pairsOf (r .answer) ≤ roomMost) ⌝ }
+    ensures { λ r. ⌜ (turned r (now (a .exit)) (now (b .exit)) (now (probe .exit)) (now (out .exit)) ≡ turnOf (readLine (now (line .entry))) state (now (a .entry)) (now (b .entry)) (now (probe .entry)) (now (out .entry))) × (writtenOf (r .answer) ≤ roomMost) ⌝ }
 {
     match read_line(line) {
         Line::Start(parts, slots, limit) => begin(state, open(parts, slots, limit, a, b, probe)),
         Line::Ask(call) => ask(state, call, a, b, probe, out),
-        Line::Drain(room) => ask_drain(state, room, a, b, probe, out),
+        Line::Drain(room) => ask_in(state, Call::Drain, pairs_need(room), a, b, probe, out),
+        Line::Lone(source, room) => {
+            ask_in(
+                state,
+                Call::Lone(source),
+                singles_need(room),
+                a,
+                b,
+                probe,
+                out,
+            )
+        }
         Line::Bad => Outcome {
             answer: Answer::Refused(Why::BadLine),
             state,

@@ -12,23 +12,25 @@ use stamps::Message;
 use stamps::Source;
 ghost use mathlib.Core.Path.{_≡_};
 ghost use Rattle.lines.specs.Fields.{fields};
-ghost use Rattle.lines.specs.Reading.{numberAt, sideAt, startLine, arriveLine, portionOf, evictLine, runLine, closeLine, drainLine, readLine};
+ghost use Rattle.lines.specs.Reading.{numberAt, sideAt, startLine, arriveLine, sourcedOf, evictLine, runLine, closeLine, drainLine, loneLine, readLine};
 
 const LONGEST: usize = 80;
 
-// The most pairs that a drain may name, and that the output has room for.
+// The most pairs or rows that a line may name as room; the output has room for so many pairs.
 pub const ROOM: u32 = 512;
 
-// An opening with P, M and N; a call; a drain with the room that it names; or a line that says nothing.
+// An opening with P, M and N; a call; a drain, or a source whose rows without partner are listed, with the room that is named;
+// or a line that says nothing.
 pub enum Line {
     Start(u32, u32, u32),
     Ask(Call),
     Drain(u32),
+    Lone(Source, u32),
     Bad,
 }
 
-// A source and a partition of it.
-enum Portion {
+// A source and the number after it: a partition of it, or a room.
+enum Sourced {
     Of(Source, u32),
     Bad,
 }
@@ -78,25 +80,25 @@ fn arrive_line(source: Source, line: &[u8]) -> Line
     Line::Ask(Call::Arrive(source, Message { car, lap }))
 }
 
-fn read_portion(line: &[u8]) -> Portion
-    ensures { λ r. ⌜ r ≡ portionOf (fields (now (line .entry))) ⌝ }
+fn read_sourced(line: &[u8]) -> Sourced
+    ensures { λ r. ⌜ r ≡ sourcedOf (fields (now (line .entry))) ⌝ }
 {
     if count(line) != 3 {
-        return Portion::Bad;
+        return Sourced::Bad;
     }
     let Side::Of(source) = side_at(line, 1) else {
-        return Portion::Bad;
+        return Sourced::Bad;
     };
     let Number::Value(part) = number_at(line, 2) else {
-        return Portion::Bad;
+        return Sourced::Bad;
     };
-    Portion::Of(source, part)
+    Sourced::Of(source, part)
 }
 
 fn evict_line(line: &[u8]) -> Line
     ensures { λ r. ⌜ r ≡ evictLine (fields (now (line .entry))) ⌝ }
 {
-    let Portion::Of(source, part) = read_portion(line) else {
+    let Sourced::Of(source, part) = read_sourced(line) else {
         return Line::Bad;
     };
     Line::Ask(Call::Evict(source, part))
@@ -105,7 +107,7 @@ fn evict_line(line: &[u8]) -> Line
 fn run_line(line: &[u8]) -> Line
     ensures { λ r. ⌜ r ≡ runLine (fields (now (line .entry))) ⌝ }
 {
-    let Portion::Of(source, part) = read_portion(line) else {
+    let Sourced::Of(source, part) = read_sourced(line) else {
         return Line::Bad;
     };
     Line::Ask(Call::Run(source, part))
@@ -138,6 +140,18 @@ fn drain_line(line: &[u8]) -> Line
     Line::Drain(room)
 }
 
+fn lone_line(line: &[u8]) -> Line
+    ensures { λ r. ⌜ r ≡ loneLine (fields (now (line .entry))) ⌝ }
+{
+    let Sourced::Of(source, room) = read_sourced(line) else {
+        return Line::Bad;
+    };
+    if ROOM < room {
+        return Line::Bad;
+    }
+    Line::Lone(source, room)
+}
+
 pub fn read_line(line: &[u8]) -> Line
     ensures { λ r. ⌜ r ≡ readLine (now (line .entry)) ⌝ }
 {
@@ -151,6 +165,7 @@ pub fn read_line(line: &[u8]) -> Line
         Word::Run => run_line(line),
         Word::Close => close_line(line),
         Word::Drain => drain_line(line),
+        Word::Lone => lone_line(line),
         Word::Unknown => Line::Bad,
     }
 }

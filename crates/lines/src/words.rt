@@ -17,6 +17,7 @@ pub enum Word {
     Run,
     Close,
     Drain,
+    Lone,
     Unknown,
 }
 
@@ -65,6 +66,9 @@ pub fn read_word(text: &[u8]) -> Word
     }
     if is_same(text, b"DRAIN") {
         return Word::Drain;
+    }
+    if is_same(text, b"LONE") {
+        return Word::Lone;
     }
     match read_side(text) {
         Side::Of(source) => Word::Arrive(source),

@@ -1,8 +1,8 @@
--- How often a pair stands among those that an arrival, a run or a drain writes. By one law for `keep`, one for the line and one for the grid.
+-- How often a pair stands among those that an arrival, a run or a drain writes. By one law for the line and one for the grid.
 -- Assumes nothing.
 use mathlib.Core.Path.{_≡_, refl, sym, ap, _∙_}
-use mathlib.Core.Bool.{Bool, true, false, cond, _&&_, and-comm, and-true, and-false, false≢true}
-use mathlib.Core.List.{List, [], _∷_, _++_}
+use mathlib.Core.Bool.{Bool, true, false, _&&_, and-comm, and-true, and-false, false≢true}
+use mathlib.Core.List.{List, [], _∷_, map}
 use Prim.Native.Nat.{ℕ, zero, suc, _+_, _*_}
 use native.Mathlib.Nat.{zero-add}
 use native.Mathlib.Omega.{arith}
@@ -12,10 +12,10 @@ use Rattle.stamps.specs.declared.Source.{Source}
 use Rattle.stamps.specs.declared.Source.the-variants.{A, B}
 use Rattle.stamps.specs.declared.Item.{Item}
 use Rattle.stamps.specs.declared.Row.{Row}
-use Rattle.stamps.specs.Counting.{bit, keep}
-use Rattle.stamps.specs.Counting.Laws.{tests}
+use Rattle.stamps.specs.Counting.{bit, span, keep, count}
+use Rattle.stamps.specs.Counting.Laws.{tests, count-append, count-keep}
 use Rattle.sheets.specs.Layout.{Told}
-use Rattle.sheets.specs.Joins.{inside, numbers, same, times}
+use Rattle.sheets.specs.Joins.{inside, same, times}
 use Rattle.sheets.specs.Pairs.{Table, Pair, across, down, every, met, arrivalPairs, wanted, wantedPairs, tell, tellAll, told}
 use Rattle.sheets.specs.declared.pairs.Scope.{Scope}
 
@@ -37,11 +37,6 @@ keyed B f g x = eqb (x .key) (g (x .a) .key)
 abbrev pub at : Pair → Pair → Bool
 at p q = eqb (p .a) (q .a) && eqb (p .b) (q .b)
 
--- how often a pair of row numbers stands in a list
-abbrev pub count : Pair → List Pair → ℕ
-count p [] = 0
-count p (q ∷ ps) = bit (at p q) + count p ps
-
 pub at-eq : (p q : Pair) → at p q ≡ true → p ≡ q
 at-eq p q h = go (eqb (p .a) (q .a)) (eqb (p .b) (q .b)) refl refl h
   where
@@ -52,10 +47,6 @@ at-eq p q h = go (eqb (p .a) (q .a)) (eqb (p .b) (q .b)) refl refl h
 
 pub at-refl : (p : Pair) → at p p ≡ true
 at-refl p = rw (eq-eqb (p .a) (p .a) refl, eq-eqb (p .b) (p .b) refl)
-
-pub times-append : (x : Told) (l m : List Told) → times x (l ++ m) ≡ times x l + times x m
-times-append x [] m = omega arith
-times-append x (y ∷ l) m = omega (arith, times-append x l m)
 
 -- what is told of a pair
 same-tell : (s : Source) (f g : ℕ → Item) (x : Told) (p : Pair) → same x (tell s p (f (p .a)) (g (p .b))) ≡ (keyed s f g x && at (place s x) p)
@@ -70,27 +61,13 @@ same-tell B f g x p = go (eqb (x .a) (p .b)) refl
     go true e = rw (← eqb-true (x .a) (p .b) e, and-true (eqb (x .b) (p .a))) (and-comm (eqb (x .b) (p .a)) (eqb (x .key) (g (x .a) .key)))
     go false e = rw (and-false (eqb (x .b) (p .a)), and-false (eqb (x .key) (g (x .a) .key)))
 
-pub times-tell : (s : Source) (f g : ℕ → Item) (x : Told) (ps : List Pair) → times x (tellAll s f g ps) ≡ bit (keyed s f g x) * count (place s x) ps
+pub times-tell : (s : Source) (f g : ℕ → Item) (x : Told) (ps : List Pair) → times x (tellAll s f g ps) ≡ bit (keyed s f g x) * count at (place s x) ps
 times-tell s f g x [] = omega arith
 times-tell s f g x (p ∷ ps) = rw (same-tell s f g x p, times-tell s f g x ps) (go (keyed s f g x))
   where
-    go : (u : Bool) → bit (u && at (place s x) p) + bit u * count (place s x) ps ≡ bit u * (bit (at (place s x) p) + count (place s x) ps)
+    go : (u : Bool) → bit (u && at (place s x) p) + bit u * count at (place s x) ps ≡ bit u * (bit (at (place s x) p) + count at (place s x) ps)
     go true = omega arith
     go false = omega arith
-
-pub count-keep : (u : Pair → Bool) (p : Pair) (ps : List Pair) → count p (keep u ps) ≡ bit (u p) * count p ps
-count-keep u p [] = omega arith
-count-keep u p (q ∷ ps) = go (at p q) (u q) refl refl (count-keep u p ps)
-  where
-    go : (v w : Bool) → at p q ≡ v → u q ≡ w → count p (keep u ps) ≡ bit (u p) * count p ps
-        → count p (cond w (q ∷ keep u ps) (keep u ps)) ≡ bit (u p) * (bit v + count p ps)
-    go true w e f ih = rw (ap u (at-eq p q e) ∙ f) (own w (rw (ap u (at-eq p q e) ∙ f) at ih))
-      where
-        own : (w : Bool) → count p (keep u ps) ≡ bit w * count p ps → count p (cond w (q ∷ keep u ps) (keep u ps)) ≡ bit w * (1 + count p ps)
-        own true ih = rw e (omega arith)
-        own false ih = omega arith
-    go false true e f ih = rw e (omega arith)
-    go false false e f ih = omega arith
 
 -- from j on, n numbers
 abbrev within : ℕ → ℕ → ℕ → Bool
@@ -115,32 +92,54 @@ within-suc j n b = let f : suc j + n ≡ j + suc n = omega arith in rw f (go (eq
         next true h = le-leb (suc j) b (omega (arith, tests))
         next false h = lt-leb (suc j) b (omega (arith, tests))
 
-count-across : (p : Pair) (i j m : ℕ) → count p (across i j m) ≡ bit (eqb (p .a) i && within j m (p .b))
-count-across p i j zero = rw (within-none j (p .b), and-false)
-count-across p i j (suc m) = rw (count-across p i (suc j) m) (go (eqb (p .a) i))
+count-span : (b j m : ℕ) → count eqb b (span j m) ≡ bit (within j m b)
+count-span b j zero = rw (within-none j b)
+count-span b j (suc m) = rw (count-span b (suc j) m) (within-suc j m b)
+
+count-across : (p : Pair) (i j m : ℕ) → count at p (across i j m) ≡ bit (eqb (p .a) i && within j m (p .b))
+count-across p i j m = row (span j m) ∙ rw (count-span (p .b) j m) (go (eqb (p .a) i))
   where
-    go : (u : Bool) → bit (u && eqb (p .b) j) + bit (u && within (suc j) m (p .b)) ≡ bit (u && within j (suc m) (p .b))
-    go true = within-suc j m (p .b)
-    go false = refl
+    row : (l : List ℕ) → count at p (map (λ b. record { a = i; b = b }) l) ≡ bit (eqb (p .a) i) * count eqb (p .b) l
+    row [] = omega arith
+    row (b ∷ l) = rw (row l) (one (eqb (p .a) i))
+      where
+        one : (u : Bool) → bit (u && eqb (p .b) b) + bit u * count eqb (p .b) l ≡ bit u * (bit (eqb (p .b) b) + count eqb (p .b) l)
+        one true = omega arith
+        one false = omega arith
+
+    go : (u : Bool) → bit u * bit (within j m (p .b)) ≡ bit (u && within j m (p .b))
+    go true = omega arith
+    go false = omega arith
 
 within-all : (m b : ℕ) → within 0 m b ≡ ltb b m
 within-all m b = rw (leb·zero b, zero-add m)
 
-count-down : (p : Pair) (i n m : ℕ) → count p (down i n m) ≡ bit (within i n (p .a) && ltb (p .b) m)
+pub count-rows : (i n : ℕ) → count eqb i (span 0 n) ≡ bit (ltb i n)
+count-rows i n = rw (count-span i 0 n, within-all n i)
+
+count-down : (p : Pair) (i n m : ℕ) → count at p (down i n m) ≡ bit (within i n (p .a) && ltb (p .b) m)
 count-down p i zero m = rw (within-none i (p .a))
 count-down p i (suc n) m =
-    count-append (across i 0 m) (down (suc i) n m) ∙ rw (count-across p i 0 m, count-down p (suc i) n m, within-all m (p .b)) (go (ltb (p .b) m))
+    count-append at p (across i 0 m) (down (suc i) n m) ∙ rw (count-across p i 0 m, count-down p (suc i) n m, within-all m (p .b)) (go (ltb (p .b) m))
   where
-    count-append : (l k : List Pair) → count p (l ++ k) ≡ count p l + count p k
-    count-append [] k = omega arith
-    count-append (q ∷ l) k = omega (arith, count-append l k)
-
     go : (u : Bool) → bit (eqb (p .a) i && u) + bit (within (suc i) n (p .a) && u) ≡ bit (within i (suc n) (p .a) && u)
     go true = rw (and-true (eqb (p .a) i), and-true (within (suc i) n (p .a)), and-true (within i (suc n) (p .a))) (within-suc i n (p .a))
     go false = rw (and-false (eqb (p .a) i), and-false (within (suc i) n (p .a)), and-false (within i (suc n) (p .a)))
 
-pub count-every : (t : Table) (p : Pair) → count p (every t) ≡ bit (inside t p)
+pub count-every : (t : Table) (p : Pair) → count at p (every t) ≡ bit (inside t p)
 count-every t p = count-down p 0 (t .a .count) (t .b .count) ∙ rw (within-all (t .a .count) (p .a))
+
+-- ---- what is handed out of a list, told with its key: i is inside, m is wanted, c has the key, u and v say what was passed before and after
+
+pub told-passed : (i m c u v : Bool) (n : ℕ) → bit u * (bit m * bit i) + n ≡ bit v * (bit m * bit i) → bit ((i && (m && c)) && u) + bit c * n ≡ bit ((i && (m && c)) && v)
+told-passed true true true u v n e = omega arith
+told-passed true true false u v n e = omega arith
+told-passed true false true u v n e = omega arith
+told-passed true false false u v n e = omega arith
+told-passed false true true u v n e = omega arith
+told-passed false true false u v n e = omega arith
+told-passed false false true u v n e = omega arith
+told-passed false false false u v n e = omega arith
 
 -- ---- what an arrival, a run and a drain write, counted
 
@@ -148,9 +147,9 @@ pub times-arrival : (s : Source) (x : Told) (n : ℕ) (item : Item) (g : ℕ →
     → times x (tellAll s (λ i. item) (λ j. g j .item) (arrivalPairs n item g m))
     ≡ bit (keyed s (λ i. item) (λ j. g j .item) x) * (bit (met item (g (place s x .b))) * bit (eqb (place s x .a) n && ltb (place s x .b) m))
 unfolding arrivalPairs
-times-arrival s x n item g m = rw (times-tell, count-keep (λ p. met item (g (p .b))) (place s x) (across n 0 m), count-across (place s x) n 0 m, within-all m (place s x .b))
+times-arrival s x n item g m = rw (times-tell, count-keep at at-eq (λ p. met item (g (p .b))) (place s x) (across n 0 m), count-across (place s x) n 0 m, within-all m (place s x .b))
 
 pub times-wanted : (s : Source) (scope : Scope) (t : Table) (x : Told)
     → times x (told s t (wantedPairs scope t)) ≡ bit (keyed s (λ i. t .a .row i .item) (λ j. t .b .row j .item) x) * (bit (wanted scope t (place s x)) * bit (inside t (place s x)))
 unfolding wantedPairs
-times-wanted s scope t x = rw (times-tell, count-keep (wanted scope t) (place s x) (every t), count-every t (place s x))
+times-wanted s scope t x = rw (times-tell s (λ i. t .a .row i .item) (λ j. t .b .row j .item) x (keep (wanted scope t) (every t)), count-keep at at-eq (wanted scope t) (place s x) (every t), count-every t (place s x))

@@ -2,21 +2,25 @@
 -- Assumes nothing.
 use mathlib.Core.Path.{_≡_, refl, sym, ap, _∙_}
 use mathlib.Core.Bool.{true, false, cond}
-use mathlib.Core.List.{List, [], _∷_}
+use mathlib.Core.List.{List, [], _∷_, _++_, map}
 use Prim.Native.Nat.{ℕ, zero, suc, _+_, _*_, _-_, _≤_, _<_}
 use native.Mathlib.Nat.{sub-zero, suc-mul, mul-zero, le-trans, mul-le-mul-right}
 use native.Mathlib.Omega.{arith}
 use native.Mathlib.Numerals.{add-one}
 use lib.Dec.{ltb}
-use lib.ListN.{length, length-append, take}
-use lib.Seq.{take-nil, take-all, length-take-le}
-use borrow.Author.Tests.{lt-ltb, le-ltb}
+use lib.ListN.{length, length-append}
+use lib.Seq.{take-nil}
+use borrow.Author.Tests.{le-ltb}
 use Rattle.stamps.specs.declared.Source.{Source}
-use Rattle.sheets.specs.Layout.{pairsNeed, putPair}
-use Rattle.sheets.specs.Pairs.{Table, Pair, down, wanted, wantedPairs, tell, told, putFrom, NextIs, leftRows, leftFrom, SpotIs, past, Writes}
+use Rattle.sheets.specs.Layout.{putPair}
+use Rattle.sheets.specs.Layout.Laws.{length-putPair}
+use Rattle.sheets.specs.Pairs.{Table, Pair, across, down, position, wanted, wantedPairs, tell, tellOf, NextIs, leftRows, leftFrom, SpotIs, Writes}
 use Rattle.sheets.specs.declared.pairs.Scope.{Scope}
-use Rattle.sheets.proofs.Laws.{length-keep, length-across, length-down, product-few}
-use Rattle.sheets.proofs.PairTurns.{Handing, handing-first, handing-next, handing-end}
+use Rattle.stamps.specs.Counting.{span, keep}
+use Rattle.stamps.specs.Counting.Laws.{keep-append, keep-map, length-keep, span-step, span-end}
+use Rattle.sheets.proofs.Laws.{length-across, length-down, product-few}
+use Rattle.sheets.proofs.PairTurns.{next-skip}
+use Rattle.sheets.proofs.RoomTurns.{Giving, giving-first, giving-next, giving-full, giving-end}
 
 down-left : (i k m : ℕ) → down i k m ≡ leftRows m i 0 k
 down-left i zero m = refl
@@ -41,23 +45,24 @@ module _ (scope : Scope) (t : Table) where
   -- the first pair of a row, and the rest of it; the end of a row
   pub left-col : (i j : ℕ) → i < t .a .count → j < t .b .count
       → leftFrom scope t i j ≡ cond (wanted scope t (at i j)) (at i j ∷ leftFrom scope t i (j + 1)) (leftFrom scope t i (j + 1))
-  left-col i j h b = let e : t .a .count - i ≡ suc (t .a .count - suc i) = omega arith in
-      let f : t .b .count - j ≡ suc (t .b .count - suc j) = omega arith in rw (e, f, add-one j)
+  left-col i j h b = let e : t .a .count - i ≡ suc (t .a .count - suc i) = omega arith in rw (e, span-step j (t .b .count) b)
 
   pub left-row : (i j : ℕ) → i < t .a .count → t .b .count ≤ j → leftFrom scope t i j ≡ leftFrom scope t (i + 1) 0
   left-row i j h b = let e : t .a .count - i ≡ suc (t .a .count - suc i) = omega arith in
-      let f : t .b .count - j ≡ 0 = omega arith in rw (e, f, add-one i, down-left)
+      rw (e, span-end j (t .b .count) b, add-one i, down-left)
 
-  -- columns with no wanted pair, counted by k
-  skip-by : (k i j : ℕ) → i < t .a .count → j + k ≤ t .b .count → ((c : ℕ) → c < j + k → j ≤ c → wanted scope t (at i c) ≡ false)
-      → leftFrom scope t i j ≡ leftFrom scope t i (j + k)
-  skip-by zero i j h b f = let e : j + 0 ≡ j = omega arith in rw e
-  skip-by (suc k) i j h b f = let e : j + suc k ≡ j + 1 + k = omega arith in
-      rw (left-col i j h (omega arith), f j (omega arith) (omega arith), e) (skip-by k i (j + 1) h (omega arith) (λ c u v. f c (omega arith) (omega arith)))
+  -- by columns, the rest of a row and the rows below it
+  left-split : (i j : ℕ) → i < t .a .count → leftFrom scope t i j
+      ≡ map (at i) (keep (λ c. wanted scope t (at i c)) (span j (t .b .count - j))) ++ keep (wanted scope t) (down (suc i) (t .a .count - suc i) (t .b .count))
+  left-split i j h = let e : t .a .count - i ≡ suc (t .a .count - suc i) = omega arith in
+      rw e (keep-append (wanted scope t) (across i j (t .b .count - j)) (down (suc i) (t .a .count - suc i) (t .b .count))
+      ∙ ap (λ (l : List Pair). l ++ keep (wanted scope t) (down (suc i) (t .a .count - suc i) (t .b .count))) (keep-map (at i) (wanted scope t) (span j (t .b .count - j))))
 
+  -- columns with no wanted pair
   pub left-skip : (i from r : ℕ) → i < t .a .count → NextIs (λ c. wanted scope t (at i c)) (t .b .count) from r → leftFrom scope t i from ≡ leftFrom scope t i r
-  left-skip i from r h n = let e : from + (r - from) ≡ r = omega (arith, n .from-le) in
-      rw e at (skip-by (r - from) i from h (omega (arith, n .from-le, n .le-end)) (λ c u v. n .none-between c (omega (arith, n .from-le)) v))
+  left-skip i from r h n = left-split i from h
+      ∙ ap (λ (l : List ℕ). map (at i) l ++ keep (wanted scope t) (down (suc i) (t .a .count - suc i) (t .b .count))) (next-skip (λ c. wanted scope t (at i c)) (t .b .count) from r n)
+      ∙ sym (left-split i r h)
 
   -- ---- from row to row
 
@@ -131,76 +136,39 @@ module _ (scope : Scope) (t : Table) where
 
   -- ---- writing
 
-  -- what is written, then what is left, within the room
+  -- from pair to pair within the room
   pub record Writing (s : Source) (all : List Pair) (from room : ℕ) (o out : List ℕ) (n next i j : ℕ) : Type 0 where
     pub spot : SpotIs scope t i j i j
-    pub in-room : n ≤ room
-    pub sum : n + length (leftFrom scope t i j) ≡ length all
-    pub hands : Handing (told s t (take room all)) (told s t (take (room - n) (leftFrom scope t i j))) o out n
-    pub ends : past t next (take (room - n) (leftFrom scope t i j)) ≡ past t from (take room all)
-    pub few : length all ≤ t .a .count * t .b .count
-    pub within : next ≤ t .a .count * t .b .count
+    pub gives : Giving (position t) (t .a .count * t .b .count) (tellOf s t) putPair all (leftFrom scope t i j) from room o out n next
 
   pub writing-first : (s : Source) (row col from room : ℕ) (o : List ℕ) (i j : ℕ) → SpotIs scope t row col i j → from ≤ t .a .count * t .b .count
       → Writing s (leftFrom scope t row col) from room o o 0 from i j
   writing-first s row col from room o i j h k = record {
     spot = spot-here row col i j h;
-    in-room = omega arith;
-    sum = rw (h .none-between) (omega arith);
-    hands = rw (sub-zero, h .none-between) (handing-first _ o);
-    ends = rw (sub-zero, h .none-between);
-    few = left-size row col;
-    within = k;
+    gives = rw (h .none-between) (giving-first _ _ _ putPair (leftFrom scope t i j) from room o k (left-size i j));
   }
 
-  module _ (s : Source) (all : List Pair) (from room : ℕ) (o out : List ℕ) (n next i j : ℕ) (h : Writing s all from room o out n next i j) (l : i < t .a .count) where
-    ahead : n < room → take (room - n) (leftFrom scope t i j) ≡ at i j ∷ take (room - (n + 1)) (leftFrom scope t i (j + 1))
-    ahead b = let e : room - n ≡ suc (room - (n + 1)) = omega arith in rw (left-one i j i j (h .spot) l, e)
+  module _ (s : Source) (all : List Pair) (from room : ℕ) (o out : List ℕ) (n next i j : ℕ) (h : Writing s all from room o out n next i j) where
+    ahead : i < t .a .count
+        → Giving (position t) (t .a .count * t .b .count) (tellOf s t) putPair all (at i j ∷ leftFrom scope t i (j + 1)) from room o out n next
+    ahead l = rw (left-one i j i j (h .spot) l) at (h .gives)
 
-    pub writing-room : n < room → pairsNeed room ≤ length o → pairsNeed (n + 1) ≤ length out
-    writing-room b k = omega (arith, h .hands .long)
-
-    pub writing-next : (out′ : List ℕ) (i′ j′ : ℕ) → n < room → out′ ≡ putPair n (tell s (at i j) (t .a .row i .item) (t .b .row j .item)) out
+    pub writing-next : (out′ : List ℕ) (i′ j′ : ℕ) → i < t .a .count → n < room → out′ ≡ putPair n (tell s (at i j) (t .a .row i .item) (t .b .row j .item)) out
         → SpotIs scope t i (j + 1) i′ j′ → Writing s all from room o out′ (n + 1) (i * t .b .count + j + 1) i′ j′
-    writing-next out′ i′ j′ b e x = record {
+    writing-next out′ i′ j′ l b e x = record {
       spot = spot-here i (j + 1) i′ j′ x;
-      in-room = omega arith;
-      sum = omega (arith, rw (left-one i j i j (h .spot) l, x .none-between) at (h .sum));
-      hands = rw (← x .none-between) (handing-next _ o out n _ _ out′ (rw (ahead b) at (h .hands)) e);
-      ends = rw (← x .none-between, add-one (i * t .b .count + j)) (rw (ahead b) at (h .ends));
-      few = h .few;
-      within = omega (arith, h .spot .in-row l, suc-mul i (t .b .count), mul-le-mul-right (t .b .count) l);
+      gives = rw (← x .none-between, add-one (i * t .b .count + j)) (giving-next _ _ _ putPair all from room o out n next (at i j) _ (ahead l) length-putPair out′ b
+          (omega (arith, h .spot .in-row l, suc-mul i (t .b .count), mul-le-mul-right (t .b .count) l)) e);
     }
 
-    pub writing-full : room ≤ n → Writes s t all from room o out (record { pairs = n; more = true; next = next })
-    writing-full b = let none : room - n ≡ 0 = omega arith in
-        let more : ltb room (length all) ≡ true = lt-ltb room (length all) (omega (arith, h .in-room, rw (left-one i j i j (h .spot) l) at (h .sum))) in
-        record {
-          pairs = rw (length-take-le room all (omega (arith, h .sum, h .in-room))) (omega (arith, h .in-room));
-          more = sym more;
-          next = rw more (rw none at (h .ends));
-          out = handing-end _ o out n (rw none at (h .hands)) .1;
-          few = omega (arith, h .sum, h .few);
-          within = h .within;
-        }
+    pub writing-full : i < t .a .count → room ≤ n → Writes s t all from room o out (record { count = n; more = true; next = next })
+    writing-full l = giving-full _ _ _ putPair all from room o out n next (at i j) _ (ahead l)
 
-  pub writing-end : (s : Source) (all : List Pair) (from room : ℕ) (o out : List ℕ) (n next i j : ℕ) → Writing s all from room o out n next i j → t .a .count ≤ i
-      → Writes s t all from room o out (record { pairs = n; more = false; next = t .a .count * t .b .count })
-  writing-end s all from room o out n next i j h l = let none : leftFrom scope t i j ≡ [] = left-none i j l in
-      let whole : n ≡ length all = omega (arith, rw none at (h .sum)) in
-      let more : ltb room (length all) ≡ false = le-ltb room (length all) (omega (arith, h .in-room)) in
-      record {
-        pairs = rw (take-all room all (omega (arith, h .in-room))) whole;
-        more = sym more;
-        next = rw more;
-        out = handing-end _ o out n (rw (none, take-nil) at (h .hands)) .1;
-        few = omega (arith, h .sum, h .few);
-        within = omega arith;
-      }
+    pub writing-end : t .a .count ≤ i → Writes s t all from room o out (record { count = n; more = false; next = t .a .count * t .b .count })
+    writing-end l = giving-end _ _ _ putPair all from room o out n next (rw (left-none i j l) at (h .gives))
 
 -- nothing is wanted, and the grid has no columns
 pub writing-none : (s : Source) (t : Table) (all : List Pair) (from room : ℕ) (o : List ℕ) → all ≡ [] → t .b .count ≡ 0
-    → Writes s t all from room o o (record { pairs = 0; more = false; next = 0 })
-unfolding putFrom
+    → Writes s t all from room o o (record { count = 0; more = false; next = 0 })
 writing-none s t all from room o e z = let more : ltb room 0 ≡ false = le-ltb room 0 (omega arith) in
-    record { pairs = rw (e, take-nil); more = rw (e, more); next = rw (e, more, z, mul-zero); out = rw (e, take-nil); few = omega arith; within = omega arith }
+    record { count = rw (e, take-nil); more = rw (e, more); next = rw (e, more, z, mul-zero); out = rw (e, take-nil); few = omega arith; within = omega arith }

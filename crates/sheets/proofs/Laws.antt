@@ -7,25 +7,26 @@ use Prim.Native.Nat.{ℕ, zero, suc, _+_, _*_, _≤_, _<_, max}
 use native.Mathlib.Nat.{add-zero, zero-add, suc-mul, le-trans, mul-le-mul-left, mul-le-mul-right}
 use native.Mathlib.Omega.{arith}
 use lib.Dec.{ltb, leb, eqb, leb·zero}
-use lib.ListN.{length, getD, length-append}
+use lib.ListN.{length, getD, length-append, length-map}
 use borrow.Author.Tests.{lt-ltb, eqb-true, eq-eqb, ne-eqb}
 use Rattle.stamps.specs.declared.Source.{Source}
 use Rattle.stamps.specs.declared.Source.the-variants.{A, B}
 use Rattle.stamps.specs.declared.Item.{Item}
 use Rattle.stamps.specs.declared.Row.{Row}
 use Rattle.stamps.specs.declared.Entry.{Entry}
-use Rattle.stamps.specs.Counting.{bit, tally, keep, upTo}
-use Rattle.stamps.specs.Counting.Laws.{tests, eqb-ne, tally-le}
+use Rattle.stamps.specs.Counting.{bit, tally, span, keep, upTo}
+use Rattle.stamps.specs.Counting.Laws.{tests, eqb-ne, tally-le, length-keep, length-span}
 use Rattle.stamps.specs.Keys.{itemsMatch, partOf}
 use Rattle.stamps.specs.Keys.Laws.{match-part}
 use Rattle.stamps.specs.Stamps.{inMemory}
 use Rattle.stamps.specs.Stamps.Laws.{stamp}
-use Rattle.sheets.specs.Layout.{rowsNeed, rowAt, putRow, probeNeed, listNo, listNeed, entryAt, putEntry, Told, pairsNeed, pairAt, putPair}
-use Rattle.sheets.specs.Layout.Laws.{length-putRow, row-same, row-other, row-beyond, entry-same, entry-other, length-putPair, pair-same, pair-other, pair-beyond}
+use Rattle.sheets.specs.Layout.{rowsNeed, rowAt, putRow, probeNeed, listNo, listNeed, entryAt, putEntry, pairsNeed, pairAt, putPair, singlesNeed, singleAt, putSingle}
+use Rattle.sheets.specs.Layout.Laws.{length-putRow, row-same, row-other, row-beyond, entry-same, entry-other, length-putPair, pair-same, pair-other, length-putSingle, single-same, single-other}
 use Rattle.sheets.specs.Lists.{entries, listOf, probedAt}
 use Rattle.sheets.specs.declared.lists.ProbeList.{ProbeList}
-use Rattle.sheets.specs.Pairs.{Pair, Table, across, down, every, position, wanted, met, arrivalPairs, tellAll, putFrom, pairsAt, wantedPairs, pairsFrom}
+use Rattle.sheets.specs.Pairs.{Pair, Table, across, down, every, position, wanted, met, arrivalPairs, wantedPairs, pairsFrom}
 use Rattle.sheets.specs.declared.pairs.Scope.{Scope}
+use Rattle.sheets.proofs.Handing.{Words}
 use Rattle.sheets.specs.Rows.{hot, spooled, memoryRows, portionRows, latest, flushed, lay}
 
 -- ---- rows laid over a sheet
@@ -113,47 +114,16 @@ pub entries-new : (probe : List ℕ) (k n : ℕ) (x : Entry) → n < 32 → list
 unfolding entries
 entries-new probe k n x h b = ap₂ (λ (es : List Entry) (e : Entry). es ++ (e ∷ [])) (entries-other probe k n x k n (λ g. omega arith) h (omega arith)) (entry-same probe k n x b)
 
--- ---- pairs put into an output
+-- ---- outputs
 
-pub length-putFrom : (w : ℕ) (xs : List Told) (o : List ℕ) → length (putFrom w xs o) ≡ length o
-unfolding putFrom
-length-putFrom w [] o = refl
-length-putFrom w (x ∷ xs) o = length-putFrom (suc w) xs (putPair w x o) ∙ length-putPair w x o
+pub pair-words : Words pairAt putPair pairsNeed
+pair-words = record { grows = λ m n h. omega arith; long = length-putPair; same = pair-same; other = pair-other }
 
--- the words beyond the pairs are as they were
-pub putFrom-beyond : (w : ℕ) (xs : List Told) (o : List ℕ) (p : ℕ) → pairsNeed (w + length xs) ≤ p → getD (putFrom w xs o) p 0 ≡ getD o p 0
-unfolding putFrom
-putFrom-beyond w [] o p h = refl
-putFrom-beyond w (x ∷ xs) o p h = putFrom-beyond (suc w) xs (putPair w x o) p (omega arith) ∙ pair-beyond o w x p (omega arith)
-
-putFrom-below : (w : ℕ) (xs : List Told) (o : List ℕ) (i : ℕ) → i < w → pairAt (putFrom w xs o) i ≡ pairAt o i
-unfolding putFrom
-putFrom-below w [] o i h = refl
-putFrom-below w (x ∷ xs) o i h = putFrom-below (suc w) xs (putPair w x o) i (omega arith) ∙ pair-other o w x i (omega arith)
-
--- pairs that are put are read back
-pub read-put : (w : ℕ) (xs : List Told) (o : List ℕ) → pairsNeed (w + length xs) ≤ length o → pairsAt (putFrom w xs o) w (length xs) ≡ xs
-unfolding putFrom
-read-put w [] o h = refl
-read-put w (x ∷ xs) o h = ap₂ (λ (y : Told) (ys : List Told). y ∷ ys)
-    (putFrom-below (suc w) xs (putPair w x o) w (omega arith) ∙ pair-same o w x (omega arith))
-    (read-put (suc w) xs (putPair w x o) (rw length-putPair (omega arith)))
-
-pub length-tellAll : (s : Source) (x y : ℕ → Item) (ps : List Pair) → length (tellAll s x y ps) ≡ length ps
-length-tellAll s x y [] = refl
-length-tellAll s x y (p ∷ ps) = ap suc (length-tellAll s x y ps)
-
-pub length-keep : (u : Pair → Bool) (ps : List Pair) → length (keep u ps) ≤ length ps
-length-keep u [] = omega arith
-length-keep u (p ∷ ps) = go (u p) (length-keep u ps)
-  where
-    go : (v : Bool) → length (keep u ps) ≤ length ps → length (cond v (p ∷ keep u ps) (keep u ps)) ≤ suc (length ps)
-    go true h = omega arith
-    go false h = omega arith
+pub single-words : Words singleAt putSingle singlesNeed
+single-words = record { grows = λ m n h. omega arith; long = length-putSingle; same = single-same; other = single-other }
 
 pub length-across : (i j m : ℕ) → length (across i j m) ≡ m
-length-across i j zero = refl
-length-across i j (suc m) = ap suc (length-across i (suc j) m)
+length-across i j m = length-map (span j m) (λ b. record { a = i; b = b }) ∙ length-span j m
 
 pub length-down : (i n m : ℕ) → length (down i n m) ≡ n * m
 length-down i zero m = omega arith

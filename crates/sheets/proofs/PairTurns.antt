@@ -6,60 +6,29 @@ use mathlib.Core.List.{List, [], _∷_}
 use Prim.Native.Nat.{ℕ, zero, suc, _+_, _-_, _≤_, _<_}
 use native.Mathlib.Nat.{sub-zero}
 use native.Mathlib.Omega.{arith}
-use native.Mathlib.Numerals.{add-one}
 use lib.Dec.{ltb}
-use lib.ListN.{length, getD}
+use lib.ListN.{length, length-map, getD}
 use borrow.Author.Count.{below-more}
 use borrow.Author.Tests.{lt-ltb, ltb-true, ltb-false}
 use Rattle.stamps.specs.declared.Source.{Source}
 use Rattle.stamps.specs.declared.Item.{Item}
 use Rattle.stamps.specs.declared.Row.{Row}
 use Rattle.stamps.specs.declared.Entry.{Entry}
-use Rattle.stamps.specs.Counting.{tally, keep}
-use Rattle.stamps.specs.Counting.Laws.{tests, and-cong, tally-cong}
+use Rattle.stamps.specs.Counting.{tally, span, keep}
+use Rattle.stamps.specs.Counting.Laws.{tests, and-cong, tally-cong, span-step, span-end, span-skip}
 use Rattle.stamps.specs.Keys.{itemsMatch, partOf}
 use Rattle.stamps.specs.Keys.Laws.{match-part}
 use Rattle.stamps.specs.Sources.{other}
 use Rattle.stamps.specs.Stamps.{doneBefore}
-use Rattle.sheets.specs.Layout.{pairsNeed, rowAt, listNo, Told, putPair}
+use Rattle.sheets.specs.Layout.{pairsNeed, rowAt, listNo, putPair}
 use Rattle.sheets.specs.Layout.Laws.{length-putPair}
 use Rattle.sheets.specs.Rows.{flushed}
-use Rattle.sheets.proofs.Laws.{length-tellAll, met-gone, met-kept}
+use Rattle.sheets.proofs.Laws.{met-gone, met-kept}
+use Rattle.sheets.proofs.RoomTurns.{Handing, handing-first, handing-next, handing-end, handing-all}
 use Rattle.sheets.specs.Pairs.{Pair, across, met, arrivalPairs, tell, tellAll, putFrom, takes, meets, due, wanted, tableOf, NextIs}
 use Rattle.sheets.specs.Lists.{entries, listOf}
 use Rattle.sheets.specs.declared.lists.ProbeList.{ProbeList}
 use Rattle.sheets.specs.declared.pairs.Job.{Job}
-
--- ---- pairs handed out one by one: xs is what is left of all
-
-pub record Handing (all xs : List Told) (o out : List ℕ) (w : ℕ) : Type 0 where
-  pub sum : w + length xs ≡ length all
-  pub long : length out ≡ length o
-  pub rest : putFrom w xs out ≡ putFrom 0 all o
-
-pub handing-first : (all : List Told) (o : List ℕ) → Handing all all o o 0
-handing-first all o = record { sum = omega arith; long = refl; rest = refl }
-
-module _ (all : List Told) (o out : List ℕ) (w : ℕ) where
-  pub handing-next : (x : Told) (xs : List Told) (out′ : List ℕ) → Handing all (x ∷ xs) o out w → out′ ≡ putPair w x out → Handing all xs o out′ (w + 1)
-  unfolding putFrom
-  handing-next x xs out′ h e = record {
-    sum = omega (arith, h .sum);
-    long = ap length e ∙ length-putPair w x out ∙ h .long;
-    rest = rw (add-one w, e) (h .rest);
-  }
-
-  pub handing-room : (x : Told) (xs : List Told) → Handing all (x ∷ xs) o out w → pairsNeed (length all) ≤ length o → pairsNeed (w + 1) ≤ length out
-  handing-room x xs h b = omega (arith, h .sum, h .long)
-
-  pub handing-end : Handing all [] o out w → (w ≡ length all) × (out ≡ putFrom 0 all o)
-  unfolding putFrom
-  handing-end h = (omega (arith, h .sum), h .rest)
-
-  -- all are handed over once as many are
-  pub handing-all : (xs : List Told) → Handing all xs o out w → length all ≤ w → out ≡ putFrom 0 all o
-  handing-all [] h b = handing-end h .1
-  handing-all (x ∷ xs) h b = absurd (omega (arith, h .sum))
 
 -- ---- an arrival
 
@@ -69,13 +38,13 @@ ahead i item g m j = keep (λ p. met item (g (p .b))) (across i j (m - j))
 
 module _ (i : ℕ) (item : Item) (g : ℕ → Row) (m j : ℕ) where
   pub ahead-one : j < m → met item (g j) ≡ true → ahead i item g m j ≡ record { a = i; b = j } ∷ ahead i item g m (j + 1)
-  ahead-one h e = let k : m - j ≡ suc (m - suc j) = omega arith in rw (k, add-one j, e)
+  ahead-one h e = rw (span-step j m h, e)
 
   pub ahead-none : j < m → met item (g j) ≡ false → ahead i item g m j ≡ ahead i item g m (j + 1)
-  ahead-none h e = let k : m - j ≡ suc (m - suc j) = omega arith in rw (k, add-one j, e)
+  ahead-none h e = rw (span-step j m h, e)
 
   pub ahead-end : m ≤ j → ahead i item g m j ≡ []
-  ahead-end h = let k : m - j ≡ 0 = omega arith in rw k
+  ahead-end h = rw (span-end j m h)
 
 pub ahead-all : (i : ℕ) (item : Item) (g : ℕ → Row) (m : ℕ) → ahead i item g m 0 ≡ arrivalPairs i item g m
 unfolding arrivalPairs
@@ -85,14 +54,14 @@ ahead-all i item g m = rw sub-zero
 pub record Arriving (s : Source) (new : ℕ) (item : Item) (g : ℕ → Row) (m n : ℕ) (o out : List ℕ) (j w : ℕ) : Type 0 where
   pub few : w ≤ j
   pub all : n ≡ length (arrivalPairs new item g m)
-  pub hands : Handing (tellAll s (λ i. item) (λ k. g k .item) (arrivalPairs new item g m)) (tellAll s (λ i. item) (λ k. g k .item) (ahead new item g m j)) o out w
+  pub hands : Handing putPair (tellAll s (λ i. item) (λ k. g k .item) (arrivalPairs new item g m)) (tellAll s (λ i. item) (λ k. g k .item) (ahead new item g m j)) o out w
 
 pub arriving-first : (s : Source) (new : ℕ) (item : Item) (g : ℕ → Row) (m n : ℕ) (o : List ℕ) → n ≡ length (arrivalPairs new item g m) → Arriving s new item g m n o o 0 0
-arriving-first s new item g m n o e = record { few = omega arith; all = e; hands = rw ahead-all (handing-first _ o) }
+arriving-first s new item g m n o e = record { few = omega arith; all = e; hands = rw ahead-all (handing-first putPair _ o) }
 
 module _ (s : Source) (new : ℕ) (item : Item) (g : ℕ → Row) (m n : ℕ) (o out : List ℕ) (j w : ℕ) (h : Arriving s new item g m n o out j w) where
   all-told : length (tellAll s (λ i. item) (λ k. g k .item) (arrivalPairs new item g m)) ≡ n
-  all-told = length-tellAll s (λ i. item) (λ k. g k .item) (arrivalPairs new item g m) ∙ sym (h .all)
+  all-told = length-map (arrivalPairs new item g m) (λ p. tell s p item (g (p .b) .item)) ∙ sym (h .all)
 
   -- another row as long as a pair is to come
   pub arriving-more : w < n → j < m
@@ -100,24 +69,24 @@ module _ (s : Source) (new : ℕ) (item : Item) (g : ℕ → Row) (m n : ℕ) (o
     where
       go : (u : Bool) → ltb j m ≡ u → j < m
       go true e = ltb-true j m e
-      go false e = absurd (omega (arith, all-told, handing-end _ o out w (rw (ahead-end new item g m j (ltb-false j m e)) at (h .hands)) .0))
+      go false e = absurd (omega (arith, all-told, handing-end putPair _ o out w (rw (ahead-end new item g m j (ltb-false j m e)) at (h .hands)) .0))
 
   pub arriving-one : (out′ : List ℕ) → w < n → met item (g j) ≡ true → out′ ≡ putPair w (tell s (record { a = new; b = j }) item (g j .item)) out
       → Arriving s new item g m n o out′ (j + 1) (w + 1)
   arriving-one out′ b e k = record {
     few = omega (arith, h .few);
     all = h .all;
-    hands = handing-next _ o out w _ _ out′ (rw (ahead-one new item g m j (arriving-more b) e) at (h .hands)) k;
+    hands = handing-next putPair _ o out w length-putPair _ _ out′ (rw (ahead-one new item g m j (arriving-more b) e) at (h .hands)) k;
   }
 
   pub arriving-room : w < n → met item (g j) ≡ true → pairsNeed n ≤ length o → pairsNeed (w + 1) ≤ length out
-  arriving-room b e k = handing-room _ o out w _ _ (rw (ahead-one new item g m j (arriving-more b) e) at (h .hands)) (rw all-told k)
+  arriving-room b e k = omega (arith, h .hands .long)
 
   pub arriving-none : w < n → met item (g j) ≡ false → Arriving s new item g m n o out (j + 1) w
   arriving-none b e = record { few = omega (arith, h .few); all = h .all; hands = rw (ahead-none new item g m j (arriving-more b) e) at (h .hands) }
 
   pub arriving-end : n ≤ w → out ≡ putFrom 0 (tellAll s (λ i. item) (λ k. g k .item) (arrivalPairs new item g m)) o
-  arriving-end b = handing-all _ o out w _ (h .hands) (rw all-told b)
+  arriving-end b = handing-all putPair _ o out w _ (h .hands) (rw all-told b)
 
 -- the count, told before the flush
 pub gone-none : (parts q : ℕ) (item : Item) (f : ℕ → Row) (n : ℕ) → partOf parts item ≡ q → (clock : ℕ) → 0 ≡ tally (λ j. met item (flushed parts q clock f j)) n
@@ -184,6 +153,12 @@ module _ (m o : ℕ → Bool) (n from : ℕ) where
     sought-end b = passed-end _ n from j (h .passed) b
 
 -- ---- one row of a job
+
+-- up to it nothing passes
+pub next-skip : (t : ℕ → Bool) (n from r : ℕ) → NextIs t n from r → keep t (span from (n - from)) ≡ keep t (span r (n - r))
+next-skip t n from r h = let e : n - from ≡ r - from + (n - r) = omega (arith, h .from-le, h .le-end) in let f : from + (r - from) ≡ r = omega (arith, h .from-le) in
+    ap (λ (m : ℕ). keep t (span from m)) e ∙ span-skip t from (r - from) (n - r) (λ k b c. h .none-between k (omega (arith, h .from-le)) c)
+    ∙ ap (λ (i : ℕ). keep t (span i (n - r))) f
 
 pub next-cong : (t u : ℕ → Bool) (n from r : ℕ) → ((k : ℕ) → t k ≡ u k) → NextIs u n from r → NextIs t n from r
 next-cong t u n from r e h = record {

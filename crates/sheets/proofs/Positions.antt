@@ -2,26 +2,29 @@
 -- Assumes nothing.
 use mathlib.Core.Path.{_≡_, refl, sym, ap, ap₂, _∙_}
 use mathlib.Core.Bool.{Bool}
-use mathlib.Core.List.{List, [], _++_}
+use mathlib.Core.List.{List, [], _++_, map}
 use Prim.Native.Nat.{ℕ, zero, suc, _+_, _*_, _-_, _/_, _%_, _≤_, _<_}
 use native.Mathlib.Nat.{le-trans, zero-add, add-zero, suc-mul, mul-comm, mul-le-mul-right, div-add-mod', mod-lt, div-le-of-le-mul, pos-of-ne-zero}
 use native.Mathlib.Omega.{arith}
 use lib.Dec.{leb}
 use borrow.Author.Tests.{le-leb, lt-leb}
-use Rattle.stamps.specs.Counting.{keep}
-use Rattle.stamps.specs.Counting.Laws.{keep-append, keep-comm}
+use Rattle.stamps.specs.Counting.{span, keep}
+use Rattle.stamps.specs.Counting.Laws.{keep-append, keep-comm, keep-map, span-all, span-skip}
 use Rattle.sheets.specs.Pairs.{Table, Pair, across, down, every, position, wanted, wantedPairs, pairsFrom, leftRows, leftFrom, Writes}
 use Rattle.stamps.specs.declared.Source.{Source}
-use Rattle.sheets.specs.declared.pairs.Written.{Written}
+use Rattle.sheets.specs.declared.rooms.Written.{Written}
 use Rattle.sheets.specs.declared.pairs.Scope.{Scope}
 
 module _ (m k : ℕ) where
   abbrev later : Pair → Bool
   later p = leb k (p .a * m + p .b)
 
+  -- a row's pairs, by their columns
+  later-across : (i j n : ℕ) → keep later (across i j n) ≡ map (λ b. record { a = i; b = b }) (keep (λ b. leb k (i * m + b)) (span j n))
+  later-across i j n = keep-map (λ b. record { a = i; b = b }) later (span j n)
+
   all-across : (i j n : ℕ) → k ≤ i * m + j → keep later (across i j n) ≡ across i j n
-  all-across i j zero h = refl
-  all-across i j (suc n) h = rw (le-leb k (i * m + j) h, all-across i (suc j) n (omega arith))
+  all-across i j n h = later-across i j n ∙ ap (map _) (span-all (λ b. leb k (i * m + b)) j n (λ b c. le-leb k (i * m + b) (omega arith)))
 
   all-down : (i n : ℕ) → k ≤ i * m → keep later (down i n m) ≡ down i n m
   all-down i zero h = refl
@@ -30,9 +33,8 @@ module _ (m k : ℕ) where
 
   -- the first d columns of a row fall away
   cut-across : (i j d n : ℕ) → i * m + (j + d) ≤ k → keep later (across i j (d + n)) ≡ keep later (across i (j + d) n)
-  cut-across i j zero n h = rw (zero-add, add-zero)
-  cut-across i j (suc d) n h = let e : suc d + n ≡ suc (d + n) = omega arith in let f : suc j + d ≡ j + suc d = omega arith in
-      rw (e, lt-leb k (i * m + j) (omega arith), ← f) (cut-across i (suc j) d n (omega arith))
+  cut-across i j d n h = later-across i j (d + n) ∙ ap (map _) (span-skip (λ b. leb k (i * m + b)) j d n (λ b c f. lt-leb k (i * m + b) (omega arith)))
+      ∙ sym (later-across i (j + d) n)
 
   none-across : (i n : ℕ) → i * m + n ≤ k → keep later (across i 0 n) ≡ []
   none-across i n h = let e : n + 0 ≡ n = omega arith in rw e at (cut-across i 0 n 0 (omega arith))

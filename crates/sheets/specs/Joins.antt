@@ -1,10 +1,10 @@
 -- The join that is owed: which pairs match, which of them were done before, and how often a pair stands in a list.
 use mathlib.Core.Bool.{Bool, _&&_}
-use mathlib.Core.List.{List, [], _∷_}
-use Prim.Native.Nat.{ℕ, _+_}
+use mathlib.Core.List.{List}
+use Prim.Native.Nat.{ℕ}
 use lib.Dec.{ltb, eqb}
 use Rattle.stamps.specs.declared.Source.the-variants.{A}
-use Rattle.stamps.specs.Counting.{bit, keep}
+use Rattle.stamps.specs.Counting.{keep, count, missingIn}
 use Rattle.stamps.specs.Keys.{itemsMatch, partOf}
 use Rattle.stamps.specs.Stamps.{doneBefore}
 use Rattle.sheets.specs.Layout.{Told}
@@ -44,9 +44,8 @@ same x y = eqb (x .a) (y .a) && (eqb (x .b) (y .b) && eqb (x .key) (y .key))
 
 -- how often a pair stands in a list
 abbrev pub times : Told → List Told → ℕ
-times x [] = 0
-times x (y ∷ l) = bit (same x y) + times x l
+times = count same
 
 -- those of the join that a list leaves out
 unfoldable pub missing : Table → List Told → List Told
-missing t l = keep (λ x. eqb (times x l) 0) (join t)
+missing t l = missingIn same l (join t)

@@ -7,7 +7,6 @@ use Rattle.stamps.specs.declared.Source.{Source}
 use Rattle.stamps.specs.declared.Source.the-variants.{A, B}
 use Rattle.stamps.specs.declared.Row.{Row}
 use Rattle.stamps.specs.declared.Entry.{Entry}
-pub use Rattle.sheets.specs.declared.layout.Told.{Told}
 pub mod Meaning
 pub mod Laws
 
@@ -58,6 +57,12 @@ putEntry k e x l = sets l (64 * k + 2 * e) (entryWords x)
 
 -- ---- pairs: "A pair is (A row number, B row number, key)", "three words a pair"
 
+-- as it stands in an output
+pub record Told : Type 0 where
+  pub a : ℕ
+  pub b : ℕ
+  pub key : ℕ
+
 -- the words that n pairs take
 abbrev pub pairsNeed : ℕ → ℕ
 pairsNeed n = 3 * n
@@ -77,3 +82,30 @@ pairWords x = x .a ∷ x .b ∷ x .key ∷ []
 -- pair number w written
 unfoldable pub putPair : ℕ → Told → List ℕ → List ℕ
 putPair w x o = sets o (3 * w) (pairWords x)
+
+-- ---- rows by themselves: "each as (row number, key)", "Two words a row"
+
+-- as it stands in an output
+pub record Single : Type 0 where
+  pub row : ℕ
+  pub key : ℕ
+
+-- the words that n of them take
+abbrev pub singlesNeed : ℕ → ℕ
+singlesNeed n = 2 * n
+
+-- "the room is the output's length over 2"
+abbrev pub singleRoom : ℕ → ℕ
+singleRoom words = words / 2
+
+-- number w of an output
+unfoldable pub singleAt : List ℕ → ℕ → Single
+singleAt o w = record { row = getD o (2 * w) 0; key = getD o (2 * w + 1) 0 }
+
+-- its words, in their order
+abbrev pub singleWords : Single → List ℕ
+singleWords x = x .row ∷ x .key ∷ []
+
+-- number w written
+unfoldable pub putSingle : ℕ → Single → List ℕ → List ℕ
+putSingle w x o = sets o (2 * w) (singleWords x)

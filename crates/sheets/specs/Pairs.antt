@@ -1,25 +1,25 @@
 -- Pairs of rows: which are written by an arrival, a run and a drain, and in what order.
 -- All is said for source A with B across from it. For B it is the same with the two in each other's place.
 use mathlib.Core.Path.{_≡_}
-use mathlib.Core.Bool.{Bool, true, false, not, cond, _&&_}
-use mathlib.Core.List.{List, [], _∷_, _++_}
+use mathlib.Core.Bool.{Bool, true, false, not, _&&_}
+use mathlib.Core.List.{List, [], _++_, map}
 use Prim.Native.Nat.{ℕ, zero, suc, _+_, _*_, _-_, _≤_, _<_}
-use lib.Dec.{ltb, leb}
-use lib.ListN.{length, take, getD}
+use lib.ListN.{length, getD}
 use Rattle.stamps.specs.declared.Source.{Source}
 use Rattle.stamps.specs.declared.Source.the-variants.{A, B}
 use Rattle.stamps.specs.declared.Item.{Item}
 use Rattle.stamps.specs.declared.Row.{Row}
 use Rattle.stamps.specs.declared.Entry.{Entry}
-use Rattle.stamps.specs.Counting.{keep}
+use Rattle.stamps.specs.Counting.{span, keep}
 use Rattle.stamps.specs.Keys.{itemsMatch, partOf}
 use Rattle.stamps.specs.Sources.{other}
 use Rattle.stamps.specs.Stamps.{inMemory, doneBefore}
 use Rattle.sheets.specs.Layout.{rowsNeed, rowAt, probeNeed, Told, pairAt, putPair}
 use Rattle.sheets.specs.Lists.{listOf}
+use Rattle.sheets.specs.Rooms.{onFrom, putAll, readAll, HandsOut}
 use Rattle.sheets.specs.Rows.{spooled}
 use Rattle.sheets.specs.declared.pairs.Job.{Job}
-use Rattle.sheets.specs.declared.pairs.Written.{Written}
+use Rattle.sheets.specs.declared.rooms.Written.{Written}
 use Rattle.sheets.specs.declared.pairs.Scope.{Scope}
 use Rattle.sheets.specs.declared.pairs.Scope.the-variants.{All, Portion}
 
@@ -46,8 +46,7 @@ pub record Pair : Type 0 where
 
 -- row i of A with m rows of B from row j on
 abbrev pub across : ℕ → ℕ → ℕ → List Pair
-across i j zero = []
-across i j (suc m) = record { a = i; b = j } ∷ across i (suc j) m
+across i j m = map (λ b. record { a = i; b = b }) (span j m)
 
 -- n rows of A from row i on, each with the first m rows of B: "by A row, then B row"
 abbrev pub down : ℕ → ℕ → ℕ → List Pair
@@ -110,7 +109,7 @@ wantedPairs scope t = keep (wanted scope t) (every t)
 
 -- of a drain: "from the drain position on"
 unfoldable pub pairsFrom : Scope → ℕ → Table → List Pair
-pairsFrom scope k t = keep (λ p. leb k (position t p)) (wantedPairs scope t)
+pairsFrom scope k t = onFrom (position t) k (wantedPairs scope t)
 
 -- ---- pairs in an output
 
@@ -121,22 +120,23 @@ tell B p x y = record { a = p .b; b = p .a; key = y .key }
 
 -- and of a list of pairs
 abbrev pub tellAll : Source → (ℕ → Item) → (ℕ → Item) → List Pair → List Told
-tellAll s x y [] = []
-tellAll s x y (p ∷ ps) = tell s p (x (p .a)) (y (p .b)) ∷ tellAll s x y ps
+tellAll s x y = map (λ p. tell s p (x (p .a)) (y (p .b)))
 
--- of pairs of a table's rows, seen from source s
+-- of a pair of a table's rows, seen from source s
+abbrev pub tellOf : Source → Table → Pair → Told
+tellOf s t p = tell s p (t .a .row (p .a) .item) (t .b .row (p .b) .item)
+
+-- of a list of these
 abbrev pub told : Source → Table → List Pair → List Told
-told s t = tellAll s (λ i. t .a .row i .item) (λ j. t .b .row j .item)
+told s t = map (tellOf s t)
 
 -- written one after the other from pair number w on, every other word as it was
-unfoldable pub putFrom : ℕ → List Told → List ℕ → List ℕ
-putFrom w [] o = o
-putFrom w (x ∷ xs) o = putFrom (suc w) xs (putPair w x o)
+abbrev pub putFrom : ℕ → List Told → List ℕ → List ℕ
+putFrom = putAll putPair
 
 -- n pairs read back, from pair number w on
 abbrev pub pairsAt : List ℕ → ℕ → ℕ → List Told
-pairsAt o w zero = []
-pairsAt o w (suc n) = pairAt o w ∷ pairsAt o (suc w) n
+pairsAt = readAll pairAt
 
 -- ---- a job: what a run or a drain works on
 
@@ -182,16 +182,6 @@ pub record SpotIs (scope : Scope) (t : Table) (i j i′ j′ : ℕ) : Type 0 whe
   pub in-row : i′ < t .a .count → j′ < t .b .count
   pub is-wanted : i′ < t .a .count → wanted scope t (record { a = i′; b = j′ }) ≡ true
 
--- "one past the last pair written", k if none was
-abbrev pub past : Table → ℕ → List Pair → ℕ
-past t k [] = k
-past t k (p ∷ ps) = past t (suc (position t p)) ps
-
--- as many of the pairs as there is room for are written; "If any remain, the position becomes one past the last pair written .. if none remains, it becomes (A rows) x (B rows)"
-pub record Writes (s : Source) (t : Table) (ps : List Pair) (from room : ℕ) (o o′ : List ℕ) (r : Written) : Type 0 where
-  pub pairs : r .pairs ≡ length (take room ps)
-  pub more : r .more ≡ ltb room (length ps)
-  pub next : r .next ≡ cond (ltb room (length ps)) (past t from (take room ps)) (t .a .count * t .b .count)
-  pub out : o′ ≡ putFrom 0 (told s t (take room ps)) o
-  pub few : r .pairs ≤ t .a .count * t .b .count
-  pub within : r .next ≤ t .a .count * t .b .count
+-- as many of the pairs as there is room for are written; "if none remains, [the position] becomes (A rows) x (B rows)"
+abbrev pub Writes : Source → Table → List Pair → ℕ → ℕ → List ℕ → List ℕ → Written → Type 0
+Writes s t = HandsOut (position t) (t .a .count * t .b .count) (tellOf s t) putPair

@@ -7,7 +7,7 @@ ghost use mathlib.Core.Path.{_≡_};
 ghost use Prim.Native.Nat.{_+_, _≤_, _<_};
 ghost use lib.ListN.{length};
 ghost use Rattle.stamps.specs.Stamps.Laws.{stamp};
-ghost use Rattle.sheets.specs.Layout.{rowsNeed, probeNeed, roomOf, rowAt, putRow, listNo, listNeed, entryAt, putEntry, pairsNeed, pairAt, putPair};
+ghost use Rattle.sheets.specs.Layout.{rowsNeed, probeNeed, roomOf, rowAt, putRow, listNo, listNeed, entryAt, putEntry, pairsNeed, putPair, singlesNeed, singleRoom, putSingle};
 ghost use Rattle.sheets.specs.Pairs.{tell};
 
 pub const ROW: usize = 3;
@@ -17,6 +17,8 @@ const ENTRY: usize = 2;
 pub const LIST: usize = 64;
 
 pub const PAIR: usize = 3;
+
+pub const SINGLE: usize = 2;
 
 // The words that so many rows take.
 pub fn rows_need(rows: u32) -> usize
@@ -44,6 +46,20 @@ pub fn room_of(words: usize) -> usize
     ensures { λ r. ⌜ r ≡ roomOf words ⌝ }
 {
     words / PAIR
+}
+
+// The words that so many rows by themselves take.
+pub fn singles_need(singles: u32) -> usize
+    ensures { λ r. ⌜ r ≡ singlesNeed singles ⌝ }
+{
+    SINGLE * (singles as usize)
+}
+
+// The rows by themselves that an output of so many words has room for.
+pub fn single_room(words: usize) -> usize
+    ensures { λ r. ⌜ r ≡ singleRoom words ⌝ }
+{
+    words / SINGLE
 }
 
 pub fn item_at(sheet: &[u32], row: usize) -> Item
@@ -125,25 +141,6 @@ pub fn put_entry(probe: &mut [u32], list: usize, e: usize, x: Entry)
     probe[at + 1] = x.probe;
 }
 
-// A pair as it stands in an output.
-pub struct Told {
-    pub a: u32,
-    pub b: u32,
-    pub key: u32,
-}
-
-pub fn pair_at(out: &[u32], w: usize) -> Told
-    requires { ⌜ pairsNeed (w + 1) ≤ length (now out) ⌝ }
-    ensures { λ r. ⌜ r ≡ pairAt (now (out .entry)) w ⌝ }
-{
-    let at = PAIR * w;
-    Told {
-        a: out[at],
-        b: out[at + 1],
-        key: out[at + 2],
-    }
-}
-
 // Pair number w.
 fn put_pair(out: &mut [u32], w: usize, a: u32, b: u32, of_a: Item)
     requires { ⌜ pairsNeed (w + 1) ≤ length (now out) ⌝ }
@@ -172,4 +169,14 @@ pub fn put_told(
         Source::A => put_pair(out, w, own, facing, own_item),
         Source::B => put_pair(out, w, facing, own, facing_item),
     }
+}
+
+// Number w: a row, with its item.
+pub fn put_single(out: &mut [u32], w: usize, row: u32, item: Item)
+    requires { ⌜ singlesNeed (w + 1) ≤ length (now out) ⌝ }
+    ensures { λ _. ⌜ now (out .exit) ≡ putSingle w (record { row = row; key = item .key }) (now (out .entry)) ⌝ }
+{
+    let at = SINGLE * w;
+    out[at] = row;
+    out[at + 1] = item.key;
 }

@@ -2,5 +2,7 @@
 pub mod arrivals;
 pub mod layout;
 pub mod lists;
+pub mod lones;
 pub mod pairs;
+pub mod rooms;
 pub mod rows;

@@ -5,6 +5,7 @@ use crate::layout::row_at;
 use crate::lists::ProbeList;
 use crate::lists::done_before;
 use crate::lists::list_of;
+use crate::rooms::Written;
 use stamps::Item;
 use stamps::Row;
 use stamps::Source;
@@ -39,15 +40,8 @@ pub struct Spot {
     pub facing: usize,
 }
 
-// Pairs written, whether any remain, and the position after them.
-pub struct Written {
-    pub pairs: usize,
-    pub more: bool,
-    pub next: usize,
-}
-
-// The first row from `from` on whose item matches, or rows: the inner loop of runs and drains. It reads keys only.
-fn next_match(sheet: &[u32], rows: usize, from: usize, item: Item) -> usize
+// The first row from `from` on whose item matches, or rows: the inner loop of runs, drains and lone calls. It reads keys only.
+pub fn next_match(sheet: &[u32], rows: usize, from: usize, item: Item) -> usize
     requires { ⌜ (rowsNeed rows ≤ length (now sheet)) × (from ≤ rows) ⌝ }
     ensures { λ r. ⌜ NextIs (λ j. itemsMatch item (rowAt (now (sheet .entry)) j .item)) rows from r ⌝ }
 {
@@ -221,7 +215,7 @@ fn write_due(
     while row < rows {
         if room <= pairs {
             return Written {
-                pairs,
+                count: pairs,
                 more: true,
                 next,
             };
@@ -242,7 +236,7 @@ fn write_due(
         j = spot.facing;
     }
     Written {
-        pairs,
+        count: pairs,
         more: false,
         next: rows * job.others,
     }
@@ -265,7 +259,7 @@ pub fn write_from(
     let others = job.others;
     if others == 0 {
         return Written {
-            pairs: 0,
+            count: 0,
             more: false,
             next: 0,
         };

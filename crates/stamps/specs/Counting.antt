@@ -2,7 +2,7 @@
 use mathlib.Core.Bool.{Bool, true, false, cond, _&&_}
 use mathlib.Core.List.{List, [], _∷_, _++_}
 use Prim.Native.Nat.{ℕ, zero, suc, _+_, max}
-use lib.Dec.{ltb}
+use lib.Dec.{ltb, eqb}
 pub mod Laws
 
 -- 1 for a test that holds
@@ -25,6 +25,11 @@ unfoldable pub values : {X : Type 0} → (ℕ → X) → ℕ → List X
 values f zero = []
 values f (suc n) = values f n ++ (f n ∷ [])
 
+-- n numbers from i on
+abbrev pub span : ℕ → ℕ → List ℕ
+span i zero = []
+span i (suc n) = i ∷ span (suc i) n
+
 -- every test of a list holds
 abbrev pub allOf : List Bool → Bool
 allOf [] = true
@@ -35,6 +40,15 @@ allOf (b ∷ c ∷ bs) = b && allOf (c ∷ bs)
 abbrev pub keep : {X : Type 0} → (X → Bool) → List X → List X
 keep t [] = []
 keep t (x ∷ l) = cond (t x) (x ∷ keep t l) (keep t l)
+
+-- how often x stands in a list, where same says which are one and the same
+abbrev pub count : {X : Type 0} → (X → X → Bool) → X → List X → ℕ
+count same x [] = 0
+count same x (y ∷ l) = bit (same x y) + count same x l
+
+-- those of a list that another list leaves out, by the same test
+abbrev pub missingIn : {X : Type 0} → (X → X → Bool) → List X → List X → List X
+missingIn same l xs = keep (λ x. eqb (count same x l) 0) xs
 
 -- f below n, and g from n on
 abbrev pub upTo : {X : Type 0} → ℕ → (ℕ → X) → (ℕ → X) → ℕ → X

@@ -6,11 +6,12 @@ use mathlib.Core.List.{List, [], _∷_}
 use Prim.Native.Nat.{ℕ, zero, suc, _+_, _*_, _≤_, _<_}
 use native.Mathlib.Nat.{add-zero}
 use native.Mathlib.Omega.{arith}
-use lib.ListN.{length, getD, set, length-set}
-use lib.Seq.{sets, length-sets, getD-set-same, getD-set-other, set-getD}
+use native.Mathlib.Numerals.{add-one}
+use lib.ListN.{length, getD, set, length-set, take, drop}
+use lib.Seq.{drop-cons, sets, length-sets, getD-set-same, getD-set-other, set-getD}
 use Rattle.stamps.specs.declared.Row.{Row}
 use Rattle.stamps.specs.declared.Entry.{Entry}
-use Rattle.sheets.specs.Layout.{rowsNeed, rowAt, rowWords, putRow, listNeed, entryAt, entryWords, putEntry, Told, pairsNeed, pairAt, pairWords, putPair}
+use Rattle.sheets.specs.Layout.{rowsNeed, rowAt, rowWords, putRow, listNeed, entryAt, entryWords, putEntry, Told, pairsNeed, pairAt, pairWords, putPair, Single, singlesNeed, singleAt, singleWords, putSingle}
 
 -- ---- a block of words
 
@@ -28,6 +29,10 @@ sets-again : (vs l : List ℕ) (i : ℕ) → ((k p : ℕ) → k < length vs → 
 sets-again [] l i h = refl
 sets-again (v ∷ vs) l i h = let e : set l i v ≡ l = rw (h 0 i (omega arith) (omega arith)) (set-getD l i 0) in
     rw e (sets-again vs l (suc i) (λ k p b g. h (suc k) p (omega arith) (omega arith)))
+
+-- some words from one on: it, and those behind it
+words-more : (l : List ℕ) (i k : ℕ) → i < length l → take (suc k) (drop i l) ≡ getD l i 0 ∷ take k (drop (i + 1) l)
+words-more l i k h = rw (drop-cons l i 0 h, add-one i)
 
 -- ---- rows
 
@@ -109,7 +114,33 @@ pair-other o w x i d = λ k. record { a = word 0 (3 * i) (omega arith) (omega ar
     word : (j p : ℕ) → p ≡ 3 * i + j → j < 3 → getD (sets o (3 * w) (pairWords x)) p 0 ≡ getD o p 0
     word j p e b = sets-other (pairWords x) o (3 * w) p (λ k c f. d (omega arith))
 
--- a word beyond a pair's is as it was
-pub pair-beyond : (o : List ℕ) (w : ℕ) (x : Told) (p : ℕ) → pairsNeed (suc w) ≤ p → getD (putPair w x o) p 0 ≡ getD o p 0
-unfolding putPair
-pair-beyond o w x p h = sets-other (pairWords x) o (3 * w) p (λ k b e. omega arith)
+-- its words, as they stand there
+pub pair-read : (o : List ℕ) (w : ℕ) → pairsNeed (suc w) ≤ length o → take 3 (drop (3 * w) o) ≡ pairWords (pairAt o w)
+unfolding pairAt
+pair-read o w h = let q : 3 * w + 1 + 1 ≡ 3 * w + 2 = omega arith in
+    rw (words-more o (3 * w) 2 (omega arith), words-more o (3 * w + 1) 1 (omega arith), words-more o (3 * w + 1 + 1) 0 (omega arith), q)
+
+-- ---- rows by themselves
+
+pub length-putSingle : (w : ℕ) (x : Single) (o : List ℕ) → length (putSingle w x o) ≡ length o
+unfolding putSingle
+length-putSingle w x o = length-sets o (2 * w) (singleWords x)
+
+pub single-same : (o : List ℕ) (w : ℕ) (x : Single) → singlesNeed (suc w) ≤ length o → singleAt (putSingle w x o) w ≡ x
+unfolding singleAt putSingle
+single-same o w x h = λ i. record { row = word 0 (2 * w) (omega arith) (omega arith) i; key = word 1 (2 * w + 1) refl (omega arith) i }
+  where
+    word : (j p : ℕ) → p ≡ 2 * w + j → j < 2 → getD (sets o (2 * w) (singleWords x)) p 0 ≡ getD (singleWords x) j 0
+    word j p e b = sets-same (singleWords x) o (2 * w) j p e b (omega arith)
+
+pub single-other : (o : List ℕ) (w : ℕ) (x : Single) (i : ℕ) → i ≢ w → singleAt (putSingle w x o) i ≡ singleAt o i
+unfolding singleAt putSingle
+single-other o w x i d = λ k. record { row = word 0 (2 * i) (omega arith) (omega arith) k; key = word 1 (2 * i + 1) refl (omega arith) k }
+  where
+    word : (j p : ℕ) → p ≡ 2 * i + j → j < 2 → getD (sets o (2 * w) (singleWords x)) p 0 ≡ getD o p 0
+    word j p e b = sets-other (singleWords x) o (2 * w) p (λ k c f. d (omega arith))
+
+-- its words, as they stand there
+pub single-read : (o : List ℕ) (w : ℕ) → singlesNeed (suc w) ≤ length o → take 2 (drop (2 * w) o) ≡ singleWords (singleAt o w)
+unfolding singleAt
+single-read o w h = rw (words-more o (2 * w) 1 (omega arith), words-more o (2 * w + 1) 0 (omega arith))

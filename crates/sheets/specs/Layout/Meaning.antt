@@ -9,7 +9,7 @@ use lib.Seq.{set-getD}
 use Rattle.stamps.specs.declared.Row.{Row}
 use Rattle.stamps.specs.declared.Entry.{Entry}
 use Rattle.stamps.specs.Stamps.Laws.{stamp}
-use Rattle.sheets.specs.Layout.{rowAt, putRow, entryAt, putEntry, Told, pairAt, putPair}
+use Rattle.sheets.specs.Layout.{rowAt, putRow, entryAt, putEntry, Told, putPair, Single, putSingle}
 
 pub rowAt-is : (l : List ℕ) (r : ℕ)
     → rowAt l r ≡ record { item = record { key = getD l (3 * r) 0 }; ats = getD l (3 * r + 1) 0; dts = getD l (3 * r + 2) 0 }
@@ -28,13 +28,13 @@ pub putEntry-is : (k e : ℕ) (x : Entry) (l : List ℕ) → putEntry k e x l �
 unfolding putEntry
 putEntry-is k e x l = simp unary-clauses
 
-pub pairAt-is : (o : List ℕ) (w : ℕ) → pairAt o w ≡ record { a = getD o (3 * w) 0; b = getD o (3 * w + 1) 0; key = getD o (3 * w + 2) 0 }
-unfolding pairAt
-pairAt-is o w = refl
-
 pub putPair-is : (w : ℕ) (x : Told) (o : List ℕ) → putPair w x o ≡ set (set (set o (3 * w) (x .a)) (3 * w + 1) (x .b)) (3 * w + 2) (x .key)
 unfolding putPair
 putPair-is w x o = simp unary-clauses
+
+pub putSingle-is : (w : ℕ) (x : Single) (o : List ℕ) → putSingle w x o ≡ set (set o (2 * w) (x .row)) (2 * w + 1) (x .key)
+unfolding putSingle
+putSingle-is w x o = simp unary-clauses
 
 -- a row with its DTS set: one store
 pub putDts-is : (r t : ℕ) (l : List ℕ) → putRow r (stamp t (rowAt l r)) l ≡ set l (3 * r + 2) t

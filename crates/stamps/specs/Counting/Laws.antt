@@ -1,17 +1,18 @@
 -- Laws of counting and choosing, and the tests as a ruleset for omega. By induction on the count or the list.
 -- Assumes nothing.
-use mathlib.Core.Path.{_≡_, refl, sym, _∙_}
+use mathlib.Core.Path.{_≡_, refl, sym, ap, _∙_}
 use mathlib.Core.Bool.{Bool, true, false, cond, _&&_, false≢true}
 use mathlib.Core.Logic.{_≢_}
-use mathlib.Core.List.{List, [], _∷_, _++_}
-use Prim.Native.Nat.{ℕ, zero, suc, _+_, _≤_, _<_}
-use native.Mathlib.Nat.{le-refl}
+use mathlib.Core.List.{List, [], _∷_, _++_, map}
+use Prim.Native.Nat.{ℕ, zero, suc, _+_, _*_, _-_, _≤_, _<_}
+use native.Mathlib.Nat.{le-refl, zero-add, add-zero}
 use native.Mathlib.Omega.{arith}
+use native.Mathlib.Numerals.{add-one}
 use lib.Dec.{eqb}
 use lib.ListN.{length, length-append, length-set, getD, set, List·getD-append}
 use lib.Seq.{getD-at, ext-getD, getD-set-same, getD-set-other}
 use borrow.Author.Tests.{ltb-true, ltb-false, leb-true, leb-false, eqb-true, eqb-false}
-use Rattle.stamps.specs.Counting.{bit, tally, top, values, allOf, keep}
+use Rattle.stamps.specs.Counting.{bit, tally, top, values, span, allOf, keep, count}
 
 pub eqb-ne : (i j : ℕ) → eqb i j ≡ false → i ≢ j
 eqb-ne i j = eqb-false i j
@@ -41,6 +42,11 @@ and-cong false h = refl
 pub bit-le : (u : Bool) → bit u ≤ 1
 bit-le true = omega arith
 bit-le false = omega arith
+
+-- a test counts no more than its first half
+pub half-le : (u v : Bool) → bit (u && v) ≤ bit u
+half-le true v = bit-le v
+half-le false v = omega arith
 
 -- ---- tally
 
@@ -127,3 +133,79 @@ keep-comm t u (x ∷ l) = go (t x) (u x) refl refl (keep-comm t u l)
     go true false e f ih = rw f ih
     go false true e f ih = rw e ih
     go false false e f ih = ih
+
+pub keep-keep : {X : Type 0} (t u : X → Bool) (l : List X) → keep t (keep u l) ≡ keep (λ x. u x && t x) l
+keep-keep t u [] = refl
+keep-keep t u (x ∷ l) = go (u x) (keep-keep t u l)
+  where
+    go : (v : Bool) → keep t (keep u l) ≡ keep (λ x. u x && t x) l
+        → keep t (cond v (x ∷ keep u l) (keep u l)) ≡ cond (v && t x) (x ∷ keep (λ x. u x && t x) l) (keep (λ x. u x && t x) l)
+    go true ih = rw ih
+    go false ih = ih
+
+pub keep-map : {X Y : Type 0} (f : X → Y) (t : Y → Bool) (l : List X) → keep t (map f l) ≡ map f (keep (λ x. t (f x)) l)
+keep-map f t [] = refl
+keep-map f t (x ∷ l) = go (t (f x)) (keep-map f t l)
+  where
+    go : (v : Bool) → keep t (map f l) ≡ map f (keep (λ x. t (f x)) l)
+        → cond v (f x ∷ keep t (map f l)) (keep t (map f l)) ≡ map f (cond v (x ∷ keep (λ x. t (f x)) l) (keep (λ x. t (f x)) l))
+    go true ih = rw ih
+    go false ih = ih
+
+pub length-keep : {X : Type 0} (t : X → Bool) (l : List X) → length (keep t l) ≤ length l
+length-keep t [] = omega arith
+length-keep t (x ∷ l) = go (t x) (length-keep t l)
+  where
+    go : (v : Bool) → length (keep t l) ≤ length l → length (cond v (x ∷ keep t l) (keep t l)) ≤ suc (length l)
+    go true h = omega arith
+    go false h = omega arith
+
+-- ---- span
+
+pub length-span : (i n : ℕ) → length (span i n) ≡ n
+length-span i zero = refl
+length-span i (suc n) = ap suc (length-span (suc i) n)
+
+-- the numbers from i up to n: the first, and the rest; none
+pub span-step : (i n : ℕ) → i < n → span i (n - i) ≡ i ∷ span (i + 1) (n - (i + 1))
+span-step i n h = let e : n - i ≡ suc (n - (i + 1)) = omega arith in rw (e, add-one i)
+
+pub span-end : (i n : ℕ) → n ≤ i → span i (n - i) ≡ []
+span-end i n h = let e : n - i ≡ 0 = omega arith in rw e
+
+-- all pass a test
+pub span-all : (t : ℕ → Bool) (i n : ℕ) → ((k : ℕ) → i ≤ k → t k ≡ true) → keep t (span i n) ≡ span i n
+span-all t i zero h = refl
+span-all t i (suc n) h = rw (h i (omega arith), span-all t (suc i) n (λ k b. h k (omega arith)))
+
+-- the first d do not
+pub span-skip : (t : ℕ → Bool) (i d n : ℕ) → ((k : ℕ) → k < i + d → i ≤ k → t k ≡ false) → keep t (span i (d + n)) ≡ keep t (span (i + d) n)
+span-skip t i zero n h = rw (zero-add, add-zero)
+span-skip t i (suc d) n h = let e : suc d + n ≡ suc (d + n) = omega arith in let f : i + suc d ≡ suc i + d = omega arith in
+    rw (e, h i (omega arith) (omega arith), f) (span-skip t (suc i) d n (λ k b c. h k (omega arith) (omega arith)))
+
+-- ---- count
+
+module _ {X : Type 0} (same : X → X → Bool) where
+  pub count-append : (x : X) (l m : List X) → count same x (l ++ m) ≡ count same x l + count same x m
+  count-append x [] m = omega arith
+  count-append x (y ∷ l) m = omega (arith, count-append x l m)
+
+  pub count-keep : ((x y : X) → same x y ≡ true → x ≡ y) → (t : X → Bool) (x : X) (l : List X) → count same x (keep t l) ≡ bit (t x) * count same x l
+  count-keep eq t x [] = omega arith
+  count-keep eq t x (y ∷ l) = go (same x y) (t y) refl refl (count-keep eq t x l)
+    where
+      go : (v w : Bool) → same x y ≡ v → t y ≡ w → count same x (keep t l) ≡ bit (t x) * count same x l
+          → count same x (cond w (y ∷ keep t l) (keep t l)) ≡ bit (t x) * (bit v + count same x l)
+      go true w e f ih = rw (ap t (eq x y e) ∙ f) (own w (rw (ap t (eq x y e) ∙ f) at ih))
+        where
+          own : (w : Bool) → count same x (keep t l) ≡ bit w * count same x l → count same x (cond w (y ∷ keep t l) (keep t l)) ≡ bit w * (1 + count same x l)
+          own true ih = rw e (omega arith)
+          own false ih = omega arith
+      go false true e f ih = rw e (omega arith)
+      go false false e f ih = omega arith
+
+  -- tests that agree on what stands in a list keep the same
+  pub keep-cong : ((x : X) → same x x ≡ true) → (t u : X → Bool) (l : List X) → ((x : X) → 0 < count same x l → t x ≡ u x) → keep t l ≡ keep u l
+  keep-cong own t u [] h = refl
+  keep-cong own t u (x ∷ l) h = rw (h x (rw (own x) (omega arith)), keep-cong own t u l (λ y b. h y (omega arith)))

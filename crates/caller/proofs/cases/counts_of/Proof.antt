@@ -1,4 +1,4 @@
--- `caller::cases::counts_of` is safe and ends: the counts are the 32 words from 12 on, and there are 49.
+-- `caller::cases::counts_of` is safe and ends: the counts are the 32 words from 12 on, and there are 51.
 -- Assumes nothing.
 use borrow.Author.Needs.{needs}
 use Prim.Native.Nat.{_≤_, _-_}

@@ -34,10 +34,17 @@ returns-5 c =
     let at-enum-told = c .before .before .before .before .before .before .before in
     rw (at-enum-told .enum-told .given .1) (c .before .before .drain .ensures)
 
+returns-6 : tie.Need-returns-6
+returns-6 c =
+    let at-call5 = c .before .before .before .before .before .before .before .before in
+    rw (at-call5 .call5 .given .1) (c .before .before .lone .ensures)
+
 pub perform-spec : {M : Type 1} → statement M
 perform-spec =
     tie.close
     (tie.spec
+    (λ c. search needs)
+    (λ c κs. search needs)
     (λ c. search needs)
     (λ c κs. search needs)
     (λ c. search needs)
@@ -70,4 +77,9 @@ perform-spec =
     (λ c. search needs)
     (λ c. search needs)
     (λ c. search needs)
-    returns-5)
+    returns-5
+    (λ c. search needs)
+    (λ c. search needs)
+    (λ c. search needs)
+    (λ c. search needs)
+    returns-6)

@@ -9,7 +9,7 @@ use Rattle.lines.proofs.answering.answer_line.Tie as tie
 put-reply-requires : tie.Need-put-reply-requires
 put-reply-requires c κs =
     let at-respond = c .before .before .before .before .before .before .before .before .before in
-    (omega (arith, at-respond .respond .ensures .1), omega (arith, at-respond .respond .ensures .1))
+    (omega (arith, at-respond .respond .ensures .1), omega (arith, at-respond .respond .ensures .1), omega (arith, at-respond .respond .ensures .1))
 
 returns : tie.Need-returns
 returns c =

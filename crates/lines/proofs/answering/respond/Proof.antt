@@ -1,20 +1,23 @@
 -- `lines::answering::respond` meets its contract: what the line asks for picks the turn, as in `turnOf`.
 -- Assumes nothing.
 use borrow.Author.Needs.{needs}
-use mathlib.Core.Path.{sym, _∙_, subst}
-use Prim.Native.Nat.{_≤_}
 use native.Mathlib.Omega.{arith}
-use Rattle.calls.proofs.Laws.{pairs-fit}
-use Rattle.lines.proofs.AnswerTurns.{drains-fits, begun-fits, asked-fits}
-use Rattle.lines.proofs.Laws.{RoomFits, room-fits}
+use Rattle.lines.proofs.AnswerTurns.{begun-fits, asked-fits, asked-in-fits}
+use Rattle.lines.proofs.Laws.{read-fits}
 use Rattle.lines.proofs.answering.respond.Statement.{statement}
 use Rattle.lines.proofs.answering.respond.Tie as tie
 
-ask-drain-requires : tie.Need-ask-drain-requires
-ask-drain-requires c κs =
-    let at-room = c .before .before .before .before .before in
-    let at-read-line = at-room .before .before in
-    let h : at-room .room .given .0 .0 ≤ 512 = subst RoomFits (sym (at-read-line .read-line .ensures) ∙ at-room .room .given .1) (room-fits _) in omega (arith, h)
+ask-in-requires : tie.Need-ask-in-requires
+ask-in-requires c κs =
+    let at-pairs-need = c .before .before .before .before in
+    let at-room = at-pairs-need .before .before in
+    let h = read-fits _ (at-room .before .before .read-line .ensures) (at-room .room .given .1) in omega (arith, h, at-pairs-need .pairs-need .ensures)
+
+ask-in-requires-2 : tie.Need-ask-in-requires-2
+ask-in-requires-2 c κs =
+    let at-singles-need = c .before .before .before .before in
+    let at-source = at-singles-need .before .before in
+    let h = read-fits _ (at-source .before .before .read-line .ensures) (at-source .source .given .1) in omega (arith, h, at-singles-need .singles-need .ensures)
 
 returns : tie.Need-returns
 returns c =
@@ -28,17 +31,31 @@ returns-2 c =
     let at-call = at-ask .before .before .before .before .before .before in
     let at-read-line = at-call .before .before in
     let entry = at-read-line .before .before .before .before .before in
-    (rw (← at-read-line .read-line .ensures, at-call .call .given .1) (at-ask .ask .ensures), asked-fits _ _ _ _ (entry .args .out .now) _ _ _ _ _ _ (at-ask .ask .ensures) (pairs-fit _ _ _) (omega arith))
+    let h = read-fits _ (at-read-line .read-line .ensures) (at-call .call .given .1) in
+    (rw (← at-read-line .read-line .ensures, at-call .call .given .1) (at-ask .ask .ensures), asked-fits _ _ _ _ _ (entry .args .out .now) _ _ _ _ _ (at-ask .ask .ensures) (omega arith) h)
 
 returns-3 : tie.Need-returns-3
 returns-3 c =
-    let at-room = c .before .before .before .before .before .before in
+    let at-ask-in = c .before .before .before .before .before .before in
+    let at-pairs-need = at-ask-in .before .before .before .before .before in
+    let at-room = at-pairs-need .before .before in
     let at-read-line = at-room .before .before in
     let entry = at-read-line .before .before .before .before .before in
-    (rw (← at-read-line .read-line .ensures, at-room .room .given .1) (c .ask-drain .ensures), asked-fits _ _ _ _ (entry .args .out .now) _ _ _ _ _ _ (c .ask-drain .ensures) (drains-fits _ _ _) (omega arith))
+    let h = read-fits _ (at-read-line .read-line .ensures) (at-room .room .given .1) in
+    (rw (← at-read-line .read-line .ensures, at-room .room .given .1, ← at-pairs-need .pairs-need .ensures) (at-ask-in .ask-in .ensures), asked-in-fits _ _ _ _ _ _ (entry .args .out .now) _ _ _ _ _ (at-ask-in .ask-in .ensures) (omega (arith, h, at-pairs-need .pairs-need .ensures)))
 
 returns-4 : tie.Need-returns-4
-returns-4 c = (rw (← c .before .before .read-line .ensures, c .enum-told .given .1), omega arith)
+returns-4 c =
+    let at-ask-in2 = c .before .before .before .before .before .before in
+    let at-singles-need = at-ask-in2 .before .before .before .before .before in
+    let at-source = at-singles-need .before .before in
+    let at-read-line = at-source .before .before in
+    let entry = at-read-line .before .before .before .before .before in
+    let h = read-fits _ (at-read-line .read-line .ensures) (at-source .source .given .1) in
+    (rw (← at-read-line .read-line .ensures, at-source .source .given .1, ← at-singles-need .singles-need .ensures) (at-ask-in2 .ask-in2 .ensures), asked-in-fits _ _ _ _ _ _ (entry .args .out .now) _ _ _ _ _ (at-ask-in2 .ask-in2 .ensures) (omega (arith, h, at-singles-need .singles-need .ensures)))
+
+returns-5 : tie.Need-returns-5
+returns-5 c = (rw (← c .before .before .read-line .ensures, c .enum-told .given .1), omega arith)
 
 pub respond-spec : {M : Type 1} → statement M
 respond-spec =
@@ -51,7 +68,11 @@ respond-spec =
     (λ c. search needs)
     (λ c κs. search needs)
     (λ c. search needs)
-    ask-drain-requires
+    (λ c κs. search needs)
+    ask-in-requires
+    (λ c. search needs)
+    (λ c κs. search needs)
+    ask-in-requires-2
     (λ c. search needs)
     (λ c. search needs)
     (λ c. search needs)
@@ -65,4 +86,8 @@ respond-spec =
     (λ c. search needs)
     (λ c. search needs)
     returns-3
-    returns-4)
+    (λ c. search needs)
+    (λ c. search needs)
+    (λ c. search needs)
+    returns-4
+    returns-5)

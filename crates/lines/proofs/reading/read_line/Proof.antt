@@ -66,9 +66,17 @@ returns-7 c =
 returns-8 : tie.Need-returns-8
 unfolding readLine
 returns-8 c =
+    let at-field = c .before .before .before .before in
+    let entry = at-field .before .before .before in
+    let b : length (now (entry .args .line)) ≤ 80 = omega arith in
+    rw (le-leb _ _ b, ← at-field .field .ensures, ← c .before .before .before .read-word .ensures, c .before .enum-told6 .given .1, c .lone-line .ensures)
+
+returns-9 : tie.Need-returns-9
+unfolding readLine
+returns-9 c =
     let entry = c .before .before .before .before .before .before in
     let b : length (now (entry .args .line)) ≤ 80 = omega arith in
-    rw (le-leb _ _ b, ← c .before .before .before .field .ensures, ← c .before .before .read-word .ensures, c .enum-told6 .given .1)
+    rw (le-leb _ _ b, ← c .before .before .before .field .ensures, ← c .before .before .read-word .ensures, c .enum-told7 .given .1)
 
 pub read-line-spec : {M : Type 1} → statement M
 read-line-spec =
@@ -90,10 +98,13 @@ read-line-spec =
     (λ c. search needs)
     (λ c κs. search needs)
     (λ c. search needs)
+    (λ c κs. search needs)
+    (λ c. search needs)
     returns-2
     returns-3
     returns-4
     returns-5
     returns-6
     returns-7
-    returns-8)
+    returns-8
+    returns-9)

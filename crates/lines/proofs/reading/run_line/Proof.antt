@@ -1,14 +1,14 @@
--- `lines::reading::run_line` meets its contract: the portion is what `portionOf` says.
+-- `lines::reading::run_line` meets its contract: the source and the number are what `sourcedOf` says.
 -- Assumes nothing.
 use borrow.Author.Needs.{needs}
 use Rattle.lines.proofs.reading.run_line.Statement.{statement}
 use Rattle.lines.proofs.reading.run_line.Tie as tie
 
 returns : tie.Need-returns
-returns c = rw (← c .before .before .read-portion .ensures, c .enum-told .given .1)
+returns c = rw (← c .before .before .read-sourced .ensures, c .enum-told .given .1)
 
 returns-2 : tie.Need-returns-2
-returns-2 c = rw (← c .before .before .before .read-portion .ensures, c .before .source .given .1)
+returns-2 c = rw (← c .before .before .before .read-sourced .ensures, c .before .source .given .1)
 
 pub run-line-spec : {M : Type 1} → statement M
 run-line-spec =

@@ -49,21 +49,6 @@ returns-5 c =
 returns-6 : tie.Need-returns-6
 unfolding wordOf
 returns-6 c =
-    let at-if5 = c .before .before .before .before in
-    let at-is-same5 = at-if5 .before in
-    let at-if4 = at-is-same5 .before .before in
-    let at-is-same4 = at-if4 .before in
-    let at-if3 = at-is-same4 .before .before in
-    let at-is-same3 = at-if3 .before in
-    let at-if2 = at-is-same3 .before .before in
-    let at-is-same2 = at-if2 .before in
-    let at-if1 = at-is-same2 .before .before in
-    let at-is-same = at-if1 .before in
-    rw (told (at-is-same .is-same .ensures) (at-if1 .if1 .left), told (at-is-same2 .is-same2 .ensures) (at-if2 .if2 .left), told (at-is-same3 .is-same3 .ensures) (at-if3 .if3 .left), told (at-is-same4 .is-same4 .ensures) (at-if4 .if4 .left), told (at-is-same5 .is-same5 .ensures) (at-if5 .if5 .left), ← c .before .before .before .read-side .ensures, c .before .source .given .1)
-
-returns-7 : tie.Need-returns-7
-unfolding wordOf
-returns-7 c =
     let at-is-same5 = c .before .before .before .before in
     let at-if4 = at-is-same5 .before .before in
     let at-is-same4 = at-if4 .before in
@@ -73,7 +58,40 @@ returns-7 c =
     let at-is-same2 = at-if2 .before in
     let at-if1 = at-is-same2 .before .before in
     let at-is-same = at-if1 .before in
-    rw (told (at-is-same .is-same .ensures) (at-if1 .if1 .left), told (at-is-same2 .is-same2 .ensures) (at-if2 .if2 .left), told (at-is-same3 .is-same3 .ensures) (at-if3 .if3 .left), told (at-is-same4 .is-same4 .ensures) (at-if4 .if4 .left), told (at-is-same5 .is-same5 .ensures) (c .before .before .before .if5 .left), ← c .before .before .read-side .ensures, c .enum-told .given .1)
+    rw (told (at-is-same .is-same .ensures) (at-if1 .if1 .left), told (at-is-same2 .is-same2 .ensures) (at-if2 .if2 .left), told (at-is-same3 .is-same3 .ensures) (at-if3 .if3 .left), told (at-is-same4 .is-same4 .ensures) (at-if4 .if4 .left), told (at-is-same5 .is-same5 .ensures) (c .before .before .before .if5 .left), told (c .before .is-same6 .ensures) (c .if6 .taken))
+
+returns-7 : tie.Need-returns-7
+unfolding wordOf
+returns-7 c =
+    let at-if6 = c .before .before .before .before in
+    let at-is-same6 = at-if6 .before in
+    let at-if5 = at-is-same6 .before .before in
+    let at-is-same5 = at-if5 .before in
+    let at-if4 = at-is-same5 .before .before in
+    let at-is-same4 = at-if4 .before in
+    let at-if3 = at-is-same4 .before .before in
+    let at-is-same3 = at-if3 .before in
+    let at-if2 = at-is-same3 .before .before in
+    let at-is-same2 = at-if2 .before in
+    let at-if1 = at-is-same2 .before .before in
+    let at-is-same = at-if1 .before in
+    rw (told (at-is-same .is-same .ensures) (at-if1 .if1 .left), told (at-is-same2 .is-same2 .ensures) (at-if2 .if2 .left), told (at-is-same3 .is-same3 .ensures) (at-if3 .if3 .left), told (at-is-same4 .is-same4 .ensures) (at-if4 .if4 .left), told (at-is-same5 .is-same5 .ensures) (at-if5 .if5 .left), told (at-is-same6 .is-same6 .ensures) (at-if6 .if6 .left), ← c .before .before .before .read-side .ensures, c .before .source .given .1)
+
+returns-8 : tie.Need-returns-8
+unfolding wordOf
+returns-8 c =
+    let at-is-same6 = c .before .before .before .before in
+    let at-if5 = at-is-same6 .before .before in
+    let at-is-same5 = at-if5 .before in
+    let at-if4 = at-is-same5 .before .before in
+    let at-is-same4 = at-if4 .before in
+    let at-if3 = at-is-same4 .before .before in
+    let at-is-same3 = at-if3 .before in
+    let at-if2 = at-is-same3 .before .before in
+    let at-is-same2 = at-if2 .before in
+    let at-if1 = at-is-same2 .before .before in
+    let at-is-same = at-if1 .before in
+    rw (told (at-is-same .is-same .ensures) (at-if1 .if1 .left), told (at-is-same2 .is-same2 .ensures) (at-if2 .if2 .left), told (at-is-same3 .is-same3 .ensures) (at-if3 .if3 .left), told (at-is-same4 .is-same4 .ensures) (at-if4 .if4 .left), told (at-is-same5 .is-same5 .ensures) (at-if5 .if5 .left), told (at-is-same6 .is-same6 .ensures) (c .before .before .before .if6 .left), ← c .before .before .read-side .ensures, c .enum-told .given .1)
 
 pub read-word-spec : {M : Type 1} → statement M
 read-word-spec =
@@ -94,8 +112,11 @@ read-word-spec =
     (λ c. search needs)
     (λ c κs. search needs)
     returns-5
+    (λ c. search needs)
+    (λ c κs. search needs)
+    returns-6
     (λ c κs. search needs)
     (λ c. search needs)
     (λ c. search needs)
-    returns-6
-    returns-7)
+    returns-7
+    returns-8)

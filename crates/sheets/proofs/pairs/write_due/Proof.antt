@@ -5,7 +5,7 @@ use Prim.Native.Nat.{_-_}
 use native.Mathlib.Omega.{arith}
 use Rattle.sheets.specs.Pairs.{tableOf, leftFrom}
 use Rattle.sheets.proofs.Laws.{product-few}
-use Rattle.sheets.proofs.GridTurns.{spot-here, Writing, writing-first, writing-room, writing-next, writing-full, writing-end}
+use Rattle.sheets.proofs.GridTurns.{spot-here, Writing, writing-first, writing-next, writing-full, writing-end}
 use Rattle.sheets.proofs.pairs.write_due.Statement.{statement}
 use Rattle.sheets.proofs.pairs.write_due.Tie as tie
 
@@ -55,7 +55,7 @@ put-told-requires c κs =
     let at-loop-test = c .before .before .before .before in
     let at-loop = at-loop-test .before in
     let entry = at-loop .before .before .before .before .before .before in
-    writing-room _ _ _ _ _ _ _ _ _ _ _ _ (at-loop .loop .inv) (at-loop-test .loop-test .taken) (c .before .before .before .if1 .left) (entry .pre .4)
+    omega (arith, entry .pre .4, c .before .before .before .if1 .left, at-loop .loop .inv .gives .hands .long)
 
 mul-next : tie.Need-mul-next Inv-loop μ-loop
 mul-next c =
@@ -99,7 +99,7 @@ loop-again c =
     let at-if1 = at-item-at .before .before in
     let at-loop-test = at-if1 .before in
     let at-loop = at-loop-test .before in
-    writing-next _ _ _ _ _ _ _ _ _ _ _ _ (at-loop .loop .inv) (at-loop-test .loop-test .taken) _ _ _ (at-if1 .if1 .left) (rw (← at-item-at .item-at .ensures, ← at-item-at2 .item-at2 .ensures) (at-put-told .put-told .ensures)) (c .next-due2 .ensures)
+    writing-next _ _ _ _ _ _ _ _ _ _ _ _ (at-loop .loop .inv) _ _ _ (at-loop-test .loop-test .taken) (at-if1 .if1 .left) (rw (← at-item-at .item-at .ensures, ← at-item-at2 .item-at2 .ensures) (at-put-told .put-told .ensures)) (c .next-due2 .ensures)
 
 mul-t29 : tie.Need-mul-t29 Inv-loop μ-loop
 mul-t29 c =

@@ -2,13 +2,16 @@
 -- Assumes nothing.
 use borrow.Author.Needs.{needs}
 use native.Mathlib.Nat.{le-of-lt, mod-lt, mul-comm, div-le-of-le-mul, pos-of-ne-zero}
+use Rattle.sheets.specs.Pairs.{tableOf}
 use Rattle.sheets.proofs.GridTurns.{writing-none}
 use Rattle.sheets.proofs.Positions.{none-position, writes-from}
 use Rattle.sheets.proofs.pairs.write_from.Statement.{statement}
 use Rattle.sheets.proofs.pairs.write_from.Tie as tie
 
 returns : tie.Need-returns
-returns c = writing-none _ _ _ _ _ _ (none-position _ _ _ (c .if1 .taken)) (c .if1 .taken)
+returns c =
+    let entry = c .before .before .before .before .before in
+    writing-none (entry .args .job .source) (tableOf (entry .args .job) (entry .args .own .now) (entry .args .facing .now) (entry .args .probe .now) (entry .args .counts .now)) _ _ _ _ (none-position _ _ _ (c .if1 .taken)) (c .if1 .taken)
 
 write-due-requires : tie.Need-write-due-requires
 write-due-requires c κs =
@@ -19,7 +22,7 @@ returns-2 : tie.Need-returns-2
 returns-2 c =
     let at-if1 = c .before .before .before .before in
     let entry = at-if1 .before .before .before .before .before in
-    writes-from _ _ _ _ _ _ _ _ (at-if1 .if1 .left) (entry .pre .1) (c .before .before .write-due .ensures)
+    writes-from (entry .args .job .source) (entry .args .job .scope) (tableOf (entry .args .job) (entry .args .own .now) (entry .args .facing .now) (entry .args .probe .now) (entry .args .counts .now)) _ _ _ _ _ (at-if1 .if1 .left) (entry .pre .1) (c .before .before .write-due .ensures)
 
 pub write-from-spec : {M : Type 1} → statement M
 write-from-spec =

@@ -1,23 +1,23 @@
--- `lines::reading::read_portion` meets its contract: each test and each field is one of `portionOf`.
+-- `lines::reading::read_sourced` meets its contract: each test and each field is one of `sourcedOf`.
 -- Assumes nothing.
 use borrow.Author.Needs.{needs}
-use Rattle.lines.specs.Reading.{portionOf}
+use Rattle.lines.specs.Reading.{sourcedOf}
 use Rattle.lines.proofs.Tested.{told-eq, told-ne}
-use Rattle.lines.proofs.reading.read_portion.Statement.{statement}
-use Rattle.lines.proofs.reading.read_portion.Tie as tie
+use Rattle.lines.proofs.reading.read_sourced.Statement.{statement}
+use Rattle.lines.proofs.reading.read_sourced.Tie as tie
 
 returns : tie.Need-returns
-unfolding portionOf
+unfolding sourcedOf
 returns c = rw (told-ne (c .before .count .ensures) (c .if1 .taken))
 
 returns-2 : tie.Need-returns-2
-unfolding portionOf
+unfolding sourcedOf
 returns-2 c =
     let at-count = c .before .before .before .before in
     rw (told-eq (at-count .count .ensures) (c .before .before .before .if1 .left), ← c .before .before .side-at .ensures, c .enum-told .given .1)
 
 returns-3 : tie.Need-returns-3
-unfolding portionOf
+unfolding sourcedOf
 returns-3 c =
     let at-source = c .before .before .before .before in
     let at-side-at = at-source .before .before in
@@ -26,7 +26,7 @@ returns-3 c =
     rw (told-eq (at-count .count .ensures) (at-if1 .if1 .left), ← at-side-at .side-at .ensures, at-source .source .given .1, ← c .before .before .number-at .ensures, c .enum-told2 .given .1)
 
 returns-4 : tie.Need-returns-4
-unfolding portionOf
+unfolding sourcedOf
 returns-4 c =
     let at-source = c .before .before .before .before .before in
     let at-side-at = at-source .before .before in
@@ -34,8 +34,8 @@ returns-4 c =
     let at-count = at-if1 .before in
     rw (told-eq (at-count .count .ensures) (at-if1 .if1 .left), ← at-side-at .side-at .ensures, at-source .source .given .1, ← c .before .before .before .number-at .ensures, c .before .part .given .1)
 
-pub read-portion-spec : {M : Type 1} → statement M
-read-portion-spec =
+pub read-sourced-spec : {M : Type 1} → statement M
+read-sourced-spec =
     tie.close
     (tie.spec
     (λ c κs. search needs)

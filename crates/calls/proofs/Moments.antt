@@ -1,0 +1,103 @@
+-- What holds between calls holds after an accepted opening, and after every run of calls. By induction over the calls.
+-- Assumes nothing.
+use mathlib.Core.Path.{_≡_, refl, sym, ap, _∙_, subst}
+use mathlib.Core.Bool.{Bool, true, false, cond}
+use mathlib.Core.List.{List, [], _∷_}
+use Prim.Native.Nat.{ℕ, zero, suc, _-_, _≤_, _<_}
+use native.Mathlib.Omega.{arith}
+use lib.Dec.{leb·suc-zero}
+use lib.ListN.{length, length-replicate, getD, replicate}
+use Rattle.stamps.specs.declared.Source.{Source}
+use Rattle.stamps.specs.declared.Source.the-variants.{A, B}
+use Rattle.stamps.specs.declared.Entry.{Entry}
+use Rattle.stamps.specs.Counting.{values}
+use Rattle.stamps.specs.Stamps.Laws.{Below}
+use Rattle.sheets.specs.Layout.{Told, listNo}
+use Rattle.sheets.proofs.Noted.{list-none}
+use Rattle.calls.specs.Calls.{opens, fresh}
+use Rattle.calls.specs.Rounds.{Lent}
+use Rattle.calls.specs.Demand3.{run, opened, itemsOf, written}
+use Rattle.calls.specs.Refusals.{sizesFit}
+use Rattle.calls.specs.Work.{world}
+use Rattle.calls.specs.World.{World, countOf, placeOf, rowsOf}
+use Rattle.calls.specs.declared.types.Why.the-variants.{BadSheet}
+use Rattle.calls.specs.declared.types.Answer.the-variants.{Opened, Refused}
+use Rattle.calls.specs.declared.types.Reply.{Reply}
+use Rattle.calls.proofs.Checks.{sizes-are}
+use Rattle.calls.proofs.Steps.{Sits, sits-call}
+
+no-counts : (n k : ℕ) → _≡_ {A = ℕ} (getD (replicate n 0) k 0) 0
+no-counts zero k = refl
+no-counts (suc n) zero = refl
+no-counts (suc n) (suc k) = no-counts n k
+
+sits-fresh : (p m n : ℕ) (a b probe : List ℕ) → sizesFit p m n (length a) (length b) (length probe) ≡ true → Sits (world (fresh p m n) a b probe) []
+sits-fresh p m n a b probe e = record {
+  sound = record {
+    under = λ s. record { rows = none s; lists = λ q. empty (list-none p (replicate 32 0) probe s q (no-counts 32 (listNo p s q))) };
+    start = λ s k. refl;
+    tells = λ x. rw (leb·suc-zero (x .a));
+  };
+  fit = record {
+    sizes = sizes-are p m n (length a) (length b) (length probe) e;
+    few = few;
+    clock = omega arith;
+    next = omega arith;
+    lone = passed;
+    counted = length-replicate {A = ℕ} 32 0;
+    short = λ k b. rw (no-counts 32 k) (omega arith);
+  };
+}
+  where
+    w : World
+    w = world (fresh p m n) a b probe
+
+    none : (s : Source) (i : ℕ) → i < countOf w s → (rowsOf w s i .ats ≤ 0) × (rowsOf w s i .dts ≤ 0)
+    none A i h = absurd (omega arith)
+    none B i h = absurd (omega arith)
+
+    few : (s : Source) → countOf w s ≤ n
+    few A = omega arith
+    few B = omega arith
+
+    passed : (s : Source) → placeOf w s ≤ countOf w s
+    passed A = omega arith
+    passed B = omega arith
+
+    empty : {es : List Entry} → es ≡ [] → Below 0 es
+    empty h = rw h tt
+
+-- an opening that was accepted handed over a fresh record
+opened-fresh : (p m n : ℕ) (a b probe : List ℕ) → opens p m n (length a) (length b) (length probe) .answer ≡ Opened
+    → (sizesFit p m n (length a) (length b) (length probe) ≡ true) × (opened p m n a b probe ≡ world (fresh p m n) a b probe)
+unfolding opens
+opened-fresh p m n a b probe = go (sizesFit p m n (length a) (length b) (length probe))
+  where
+    said : Bool → Reply
+    said u = cond u (record { answer = Opened; session = fresh p m n }) (record { answer = Refused BadSheet; session = fresh 0 0 0 })
+
+    go : (u : Bool) → said u .answer ≡ Opened → (u ≡ true) × (world (said u .session) a b probe ≡ world (fresh p m n) a b probe)
+    go true h = (refl, refl)
+    go false h = let z : _≡_ {A = ℕ} 0 1 = cc in absurd (omega arith)
+
+pub sits-opened : (p m n : ℕ) (a b probe : List ℕ) → opens p m n (length a) (length b) (length probe) .answer ≡ Opened → Sits (opened p m n a b probe) []
+sits-opened p m n a b probe h = let f = opened-fresh p m n a b probe h in subst (λ (w : World). Sits w []) (sym (f .1)) (sits-fresh p m n a b probe (f .0))
+
+pub no-items : (p m n : ℕ) (a b probe : List ℕ) → opens p m n (length a) (length b) (length probe) .answer ≡ Opened → (s : Source) → itemsOf (opened p m n a b probe) s ≡ []
+unfolding values
+no-items p m n a b probe h s = ap (λ (w : World). itemsOf w s) (opened-fresh p m n a b probe h .1) ∙ go s
+  where
+    go : (s : Source) → itemsOf (world (fresh p m n) a b probe) s ≡ []
+    go A = refl
+    go B = refl
+
+pub no-places : (p m n : ℕ) (a b probe : List ℕ) → opens p m n (length a) (length b) (length probe) .answer ≡ Opened → (s : Source) → placeOf (opened p m n a b probe) s ≡ 0
+no-places p m n a b probe h s = ap (λ (w : World). placeOf w s) (opened-fresh p m n a b probe h .1) ∙ go s
+  where
+    go : (s : Source) → placeOf (world (fresh p m n) a b probe) s ≡ 0
+    go A = refl
+    go B = refl
+
+pub sits-run : (w : World) (l : List Told) (cs : List Lent) → Sits w l → Sits (run w l cs .world) (run w l cs .written)
+sits-run w l [] g = g
+sits-run w l (c ∷ cs) g = sits-run _ _ cs (sits-call w l (c .out) g (c .call))

@@ -1,0 +1,33 @@
+-- `lines::answering::ask_in` meets its contract: the call is lent the first words of the output, and those behind them stay.
+-- Assumes nothing.
+use borrow.Author.Needs.{needs}
+use mathlib.Core.Path.{sym, ap}
+use mathlib.Core.List.{_++_}
+use lib.ListN.{drop}
+use lib.Seq.{length-take-le}
+use Rattle.lines.specs.Answering.{Turn, turned, asksIn}
+use Rattle.lines.proofs.answering.ask_in.Statement.{statement}
+use Rattle.lines.proofs.answering.ask_in.Tie as tie
+
+slice-aggregate-ask : tie.Need-slice-aggregate-ask
+slice-aggregate-ask c = let entry = c .before .before .before .before .before .before .before .before in sym (length-take-le _ _ (entry .pre))
+
+returns : tie.Need-returns
+unfolding asksIn
+returns c =
+    let at-ask = c .before .before .before .before .before .before .before .before in
+    let entry = at-ask .before .before .before .before .before .before .before .before .before in
+    ap (λ (x : Turn). turned (x .told) (x .a) (x .b) (x .probe) (x .out ++ drop (entry .args .words) (entry .args .out .now))) (at-ask .ask .ensures)
+
+pub ask-in-spec : {M : Type 1} → statement M
+ask-in-spec =
+    tie.close
+    (tie.spec
+    (λ c. search needs)
+    slice-aggregate-ask
+    (λ c κs. search needs)
+    (λ c. search needs)
+    (λ c. search needs)
+    (λ c. search needs)
+    (λ c. search needs)
+    returns)

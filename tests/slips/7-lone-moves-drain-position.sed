@@ -1,0 +1,4 @@
+# A lone call moves the drain position too.
+/^answer box_lone/,/^}/ {
+    s/record->lone_position\[source\] = /record->position = &/
+}
