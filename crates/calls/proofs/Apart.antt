@@ -9,7 +9,6 @@ use lib.ListN.{length}
 use Rattle.stamps.specs.declared.Source.{Source}
 use Rattle.stamps.specs.declared.Source.the-variants.{A, B}
 use Rattle.stamps.specs.declared.Item.{Item}
-use Rattle.stamps.specs.Counting.Laws.{both}
 use Rattle.stamps.specs.Keys.{itemOf}
 use Rattle.stamps.specs.Sources.{other}
 use Rattle.sheets.specs.Layout.{Told}
@@ -19,7 +18,7 @@ use Rattle.calls.specs.Lone.{asks, Heard, heardOf, heard, only, others}
 use Rattle.calls.specs.Refusals.{verdict, sessionFits, bothClosed, roomFor, makeRoom, arrived, idle, rowChecks, roomCheck, roomIn, checks}
 use Rattle.calls.specs.Rounds.{Lent}
 use Rattle.calls.specs.Work.{same}
-use Rattle.calls.specs.World.{World, closedOf, countOf, placeOf, withNext, withLone, withPlace, flush, store, note, shut, move, pass}
+use Rattle.calls.specs.World.{World, pick, countOf, withLone, withPlace, flush, store, note, shut, move, pass}
 use Rattle.calls.specs.declared.types.Places.{Places}
 use Rattle.calls.specs.declared.types.Call.{Call}
 use Rattle.calls.specs.declared.types.Call.the-variants.{Arrive, Evict, Run, Close, Drain, Lone}
@@ -28,10 +27,10 @@ use Rattle.calls.specs.declared.refusals.Verdict.{Verdict}
 use Rattle.calls.specs.declared.refusals.Verdict.the-variants.{Good, No}
 use Rattle.calls.specs.declared.arriving.Room.{Room}
 use Rattle.calls.specs.declared.arriving.Room.the-variants.{Enough, Flush}
-use Rattle.calls.proofs.Fitting.{Fit, fits-hold}
+use Rattle.calls.proofs.Fitting.{Fit, positioned, fit-positions, place-within, fits-hold}
 use Rattle.calls.proofs.Seen.{both-sources, same-eq}
 use Rattle.calls.proofs.Settling.{verdict-first, verdict-rest}
-use Rattle.calls.proofs.Steps.{Sits, sits-call}
+use Rattle.calls.proofs.Steps.{Sits, closed-of, sits-call}
 
 -- ---- calls that see a part of the box only
 
@@ -184,15 +183,7 @@ abbrev start : Places
 start = record { a = 0; b = 0 }
 
 fit-start : (w : World) → Fit w → Fit (placed start w)
-fit-start w f = record {
-  sizes = f .sizes;
-  few = f .few;
-  clock = f .clock;
-  next = f .next;
-  lone = both-sources (λ u. placeOf (placed start w) u ≤ countOf w u) A (omega arith) (omega arith);
-  counted = f .counted;
-  short = f .short;
-}
+fit-start w f = fit-positions (w .session .next) start w f (f .next) (both-sources (λ u. pick u (start .a) (start .b) ≤ countOf w u) A (omega arith) (omega arith))
 
 -- a lone call moves its own position, and nothing else
 pub lone-leaves : (w : World) (o : List ℕ) (s : Source) → placed start (afterCall w o (Lone s) .world) ≡ placed start w
@@ -217,19 +208,12 @@ others-heard w g cs = heard-only others (placed start) Settled settled-call sees
 
 -- the drain position and that of the other source set back
 abbrev pub viewOf : Source → World → World
-viewOf s w = record { session = withNext 0 (withLone (withPlace (other s) 0 (w .session .lone)) (w .session)); a = w .a; b = w .b; probe = w .probe }
+viewOf s w = positioned 0 (withPlace (other s) 0 (w .session .lone)) w
 
 fit-view : (s : Source) (w : World) → Fit w → Fit (viewOf s w)
-fit-view s w f = record { sizes = f .sizes; few = f .few; clock = f .clock; next = omega arith; lone = go s; counted = f .counted; short = f .short }
-  where
-    go : (s u : Source) → placeOf (viewOf s w) u ≤ countOf w u
-    go A = both-sources (λ u. placeOf (viewOf A w) u ≤ countOf w u) A (f .lone A) (omega arith)
-    go B = both-sources (λ u. placeOf (viewOf B w) u ≤ countOf w u) B (f .lone B) (omega arith)
+fit-view s w f = fit-positions 0 (withPlace (other s) 0 (w .session .lone)) w f (omega arith) (place-within (other s) 0 w f (omega arith))
 
 -- once both are closed, nothing but a drain or a lone call does anything
-closed-of : (w : World) → bothClosed (w .session) ≡ true → (s : Source) → closedOf w s ≡ true
-closed-of w h = let c = both (closedOf w A) (closedOf w B) h in both-sources (λ s. closedOf w s ≡ true) A (c .0) (c .1)
-
 module _ (w : World) (o : List ℕ) (h : bothClosed (w .session) ≡ true) where
   -- a check that fails where a source is closed has not let the call through
   halted : (u : Bool) → u ≡ true → u ≡ false → (r : After) → r .world ≡ w

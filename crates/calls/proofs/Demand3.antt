@@ -6,7 +6,7 @@ use mathlib.Core.List.{List, [], _∷_, _++_}
 use Prim.Native.Nat.{ℕ, _+_, _*_, _-_, _≤_, _<_}
 use native.Mathlib.Omega.{arith}
 use lib.Dec.{ltb}
-use lib.ListN.{length, take, drop, length-drop, length-map}
+use lib.ListN.{length, drop, length-map}
 use borrow.Author.Tests.{lt-ltb, eq-eqb}
 use Rattle.stamps.specs.declared.Source.{Source}
 use Rattle.stamps.specs.declared.Source.the-variants.{A, B}
@@ -19,11 +19,10 @@ use Rattle.stamps.specs.Stamps.Laws.{done-memory}
 use Rattle.sheets.specs.Joins.{inside, done, numbers, isPair, times}
 use Rattle.sheets.specs.Layout.{Told, roomOf}
 use Rattle.sheets.specs.Pairs.{position, tellOf, told}
-use Rattle.sheets.proofs.Handing.{take-map}
 use Rattle.sheets.proofs.Rises.{missing-owed, drain-parts, owed-after, position-inside}
 use Rattle.calls.specs.Answers.{codeOf}
 use Rattle.calls.specs.Calls.{After, owed, drains, effect, settle, afterCall, opens}
-use Rattle.calls.specs.Rounds.{saying, Handed, sayingAt, Lent}
+use Rattle.calls.specs.Rounds.{Handed, sayingAt, Lent}
 use Rattle.calls.specs.Demand3.{wrote, opened, accepted, pairOf, owes, left, Demand3, now, written}
 use Rattle.calls.specs.Refusals.{Check, verdict, tryChecks, sessionFits, bothClosed, idle, roomIn, checks}
 use Rattle.calls.specs.Work.{world}
@@ -38,7 +37,7 @@ use Rattle.calls.proofs.Accepted.{run-accepts}
 use Rattle.calls.proofs.Fitting.{Fit, fits-hold, fit-move}
 use Rattle.calls.proofs.Laws.{refused-by}
 use Rattle.calls.proofs.Moments.{sits-opened, no-items, sits-run}
-use Rattle.calls.proofs.Rounds.{said, said-last, Gives, rounds, Shut, shut-good}
+use Rattle.calls.proofs.Rounds.{said-last, Gives, gives-first, handed, rounds, Shut, shut-good}
 use Rattle.calls.proofs.Owing.{isOut}
 use Rattle.calls.proofs.Settling.{settle-good}
 use Rattle.calls.proofs.Steps.{Sits, drain-wrote, sits-call}
@@ -74,10 +73,7 @@ module _ (w : World) (o : List ℕ) where
 
   drain-gives : Shut w → 1 ≤ room → Gives Drain More Done (λ w. length (owed w)) w o
   unfolding drains
-  drain-gives g h = record {
-    says = ap (λ (r : After). r .answer) (drain-is g h) ∙ said More Done room (owed w);
-    rest = ap (λ (r : After). length (owed (r .world))) (drain-is g h) ∙ ap length (owed-drained (g .fit)) ∙ length-drop room (owed w);
-  }
+  drain-gives g h = gives-first Drain More Done owed w o (drains w o) (drain-is g h) refl (owed-drained (g .fit))
 
   shut-drained : Shut w → 1 ≤ room → Shut (afterCall w o Drain .world)
   unfolding drains move
@@ -87,10 +83,7 @@ module _ (w : World) (o : List ℕ) where
   module _ (l : List Told) (g : Sits w l) where
     drained : bothClosed (w .session) ≡ true → 1 ≤ room → let r = afterCall w o Drain in Handed More Done (left w l) room (wrote r) (r .answer)
     drained c h = let shut : Shut w = record { fit = g .fit; closed = c } in
-        record {
-          writes = ap wrote (drain-is shut h) ∙ drain-wrote w l o g ∙ take-map (tellOf A (seenFrom A w)) room (owed w) ∙ ap (take room) (sym (left-owed w l g));
-          says = drain-gives shut h .says ∙ ap (saying More Done room) (sym (length-left w l g));
-        }
+        handed More Done (tellOf A (seenFrom A w)) (owed w) _ _ room _ (left-owed w l g) (ap wrote (drain-is shut h) ∙ drain-wrote w l o g) (drain-gives shut h .says)
 
   -- the last one, after which all are written
   last-drained : (n : ℕ) → drains w o .answer ≡ Done n → ltb room (length (owed w)) ≡ false

@@ -21,7 +21,7 @@ use Rattle.sheets.proofs.Changes.{memoryOf, flush-memory, store-memory}
 use Rattle.sheets.proofs.Laws.{length-list}
 use Rattle.calls.specs.Refusals.{countsFit, sessionFits}
 use Rattle.calls.specs.Work.{Sizes}
-use Rattle.calls.specs.World.{World, pick, countOf, sheetOf, placeOf, sideOf, flush, store, note, shut, move, pass}
+use Rattle.calls.specs.World.{World, pick, countOf, sheetOf, placeOf, sideOf, withNext, withLone, withPlace, flush, store, note, shut, move, pass}
 use Rattle.calls.specs.declared.types.Places.{Places}
 use Rattle.calls.proofs.Seen.{both-sources, Extent, extent, Seen, flush-seen, store-seen, Listable, note-seen}
 
@@ -151,17 +151,27 @@ fit-shut B w f = record {
   short = f .short;
 }
 
+-- other positions
+abbrev pub positioned : ℕ → Places → World → World
+positioned k p w = record { session = withNext k (withLone p (w .session)); a = w .a; b = w .b; probe = w .probe }
+
+pub fit-positions : (k : ℕ) (p : Places) (w : World) → Fit w → k ≤ countOf w A * countOf w B → ((s : Source) → pick s (p .a) (p .b) ≤ countOf w s) → Fit (positioned k p w)
+fit-positions k p w f h b = record { sizes = f .sizes; few = f .few; clock = f .clock; next = h; lone = b; counted = f .counted; short = f .short }
+
 pub fit-move : (k : ℕ) (w : World) → Fit w → k ≤ countOf w A * countOf w B → Fit (move k w)
 unfolding move
-fit-move k w f h = record { sizes = f .sizes; few = f .few; clock = f .clock; next = h; lone = f .lone; counted = f .counted; short = f .short }
+fit-move k w f h = fit-positions k (w .session .lone) w f h (f .lone)
+
+-- one of the lone positions moved within its rows
+pub place-within : (s : Source) (k : ℕ) (w : World) → Fit w → k ≤ countOf w s → (u : Source) → let p = withPlace s k (w .session .lone) in pick u (p .a) (p .b) ≤ countOf w u
+place-within A k w f h A = h
+place-within A k w f h B = f .lone B
+place-within B k w f h A = f .lone A
+place-within B k w f h B = h
 
 pub fit-pass : (s : Source) (k : ℕ) (w : World) → Fit w → k ≤ countOf w s → Fit (pass s k w)
 unfolding pass
-fit-pass s k w f h = record { sizes = f .sizes; few = f .few; clock = f .clock; next = f .next; lone = go s h; counted = f .counted; short = f .short }
-  where
-    go : (s : Source) → k ≤ countOf w s → (u : Source) → placeOf (pass s k w) u ≤ countOf w u
-    go A h = both-sources (λ u. placeOf (pass A k w) u ≤ countOf w u) A h (f .lone B)
-    go B h = both-sources (λ u. placeOf (pass B k w) u ≤ countOf w u) B h (f .lone A)
+fit-pass s k w f h = fit-positions (w .session .next) (withPlace s k (w .session .lone)) w f (f .next) (place-within s k w f h)
 
 -- ---- number 1
 

@@ -6,7 +6,7 @@ use mathlib.Core.List.{List, [], _∷_, _++_}
 use Prim.Native.Nat.{ℕ, suc, _+_, _≤_}
 use native.Mathlib.Omega.{arith}
 use lib.Dec.{ltb, leb}
-use lib.ListN.{length, take, length-take}
+use lib.ListN.{length, length-take}
 use borrow.Author.Tests.{ltb-false}
 use Rattle.stamps.specs.declared.Source.{Source}
 use Rattle.stamps.specs.declared.Source.the-variants.{A, B}
@@ -30,7 +30,7 @@ use Rattle.calls.specs.declared.refusals.Verdict.{Verdict}
 use Rattle.calls.specs.declared.refusals.Verdict.the-variants.{Good, No}
 use Rattle.calls.specs.declared.arriving.Room.{Room}
 use Rattle.calls.specs.declared.arriving.Room.the-variants.{Enough, Flush}
-use Rattle.calls.proofs.Settling.{verdict-first, verdict-last}
+use Rattle.calls.proofs.Settling.{either, verdict-first, verdict-last}
 
 -- ---- any two results that a promise allows for one input are equal
 
@@ -56,16 +56,8 @@ accepts w o (Run s q) = go (idle w s q)
     go true = refl
     go false = refl
 accepts w o (Close s) = refl
-accepts w o Drain = go (ltb (roomOf (length o)) (length (owed w)))
-  where
-    go : (u : Bool) → refused (cond u More Done (length (take (roomOf (length o)) (owed w)))) ≡ false
-    go true = refl
-    go false = refl
-accepts w o (Lone s) = go (ltb (singleRoom (length o)) (length (alone s w)))
-  where
-    go : (u : Bool) → refused (cond u MoreLone DoneLone (length (take (singleRoom (length o)) (alone s w)))) ≡ false
-    go true = refl
-    go false = refl
+accepts w o Drain = either (λ x. refused x ≡ false) (ltb (roomOf (length o)) (length (owed w))) More Done _ refl refl
+accepts w o (Lone s) = either (λ x. refused x ≡ false) (ltb (singleRoom (length o)) (length (alone s w))) MoreLone DoneLone _ refl refl
 
 -- a refused call is refused by its checks
 pub refused-by : (w : World) (o : List ℕ) (c : Call) (y : Why) → afterCall w o c .answer ≡ Refused y → verdict (checks w c (roomIn c (length o))) ≡ No y
@@ -142,16 +134,10 @@ effect-fits w o (Run s q) h = go (idle w s q) (verdict-last (portionChecks (w .s
     go true e = omega arith
     go false e = omega (arith, room-suffices crowded (roomOf (length o)) _ e)
 effect-fits w o (Close s) h = omega arith
-effect-fits w o Drain h = go (ltb (roomOf (length o)) (length (owed w)))
-  where
-    go : (u : Bool) → writtenOf (cond u More Done (length (take (roomOf (length o)) (owed w)))) ≤ roomOf (length o)
-    go true = omega (arith, length-take (roomOf (length o)) (owed w))
-    go false = omega (arith, length-take (roomOf (length o)) (owed w))
-effect-fits w o (Lone s) h = go (ltb (singleRoom (length o)) (length (alone s w)))
-  where
-    go : (u : Bool) → writtenOf (cond u MoreLone DoneLone (length (take (singleRoom (length o)) (alone s w)))) ≤ singleRoom (length o)
-    go true = omega (arith, length-take (singleRoom (length o)) (alone s w))
-    go false = omega (arith, length-take (singleRoom (length o)) (alone s w))
+effect-fits w o Drain h = let b = length-take (roomOf (length o)) (owed w) in
+    either (λ x. writtenOf x ≤ roomOf (length o)) (ltb (roomOf (length o)) (length (owed w))) More Done _ (omega (arith, b)) (omega (arith, b))
+effect-fits w o (Lone s) h = let b = length-take (singleRoom (length o)) (alone s w) in
+    either (λ x. writtenOf x ≤ singleRoom (length o)) (ltb (singleRoom (length o)) (length (alone s w))) MoreLone DoneLone _ (omega (arith, b)) (omega (arith, b))
 
 pub written-fits : (w : World) (o : List ℕ) (c : Call) → writtenOf (afterCall w o c .answer) ≤ roomIn c (length o)
 unfolding afterCall

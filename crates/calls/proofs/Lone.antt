@@ -6,7 +6,7 @@ use mathlib.Core.List.{List, [], _∷_, _++_, map, append-nil, append-assoc}
 use Prim.Native.Nat.{ℕ, _+_, _≤_}
 use native.Mathlib.Omega.{arith}
 use lib.Dec.{ltb, eqb, leb·suc-zero}
-use lib.ListN.{length, take, drop, length-take, length-drop, length-map}
+use lib.ListN.{length, take, drop, length-take, length-map}
 use borrow.Author.Tests.{not-false}
 use Rattle.stamps.specs.declared.Source.{Source}
 use Rattle.stamps.specs.declared.Source.the-variants.{A, B}
@@ -16,14 +16,14 @@ use Rattle.sheets.specs.Layout.{Single, Told, singlesNeed, singleRoom, singleAt
 use Rattle.sheets.specs.Lones.{Items, isLone, number, single, isSingle, sameSingle, listings}
 use Rattle.sheets.specs.Rooms.{onward}
 use Rattle.sheets.proofs.Alone.{lone-parts, lone-tells, lones-after, unlisted-left}
-use Rattle.sheets.proofs.Handing.{read-told, Parts, take-map}
+use Rattle.sheets.proofs.Handing.{read-told, Parts}
 use Rattle.sheets.proofs.Laws.{single-words}
 use Rattle.calls.specs.Answers.{singlesOf}
 use Rattle.calls.specs.Calls.{After, alone, lists, effect, settle, afterCall, opens}
 use Rattle.calls.specs.Demand3.{wrote, run, opened}
 use Rattle.calls.specs.Lone.{asks, named, listed, toList, Lones}
 use Rattle.calls.specs.Refusals.{verdict, bothClosed, checks}
-use Rattle.calls.specs.Rounds.{Lent, saying, Handed, sayingAt}
+use Rattle.calls.specs.Rounds.{Lent, Handed, sayingAt}
 use Rattle.calls.specs.Work.{same}
 use Rattle.calls.specs.World.{World, pick, countOf, placeOf, itemsFrom, pass}
 use Rattle.calls.specs.declared.types.Places.{Places}
@@ -36,8 +36,8 @@ use Rattle.calls.proofs.Apart.{by-kind, other-asks, asks-own, viewOf, c
 use Rattle.calls.proofs.Seen.{same-own}
 use Rattle.calls.proofs.Fitting.{Fit, fit-pass}
 use Rattle.calls.proofs.Moments.{sits-opened, no-places, sits-run}
-use Rattle.calls.proofs.Rounds.{said, said-last, Gives, rounds, Shut, shut-good}
-use Rattle.calls.proofs.Settling.{settle-good, verdict-first, verdict-rest}
+use Rattle.calls.proofs.Rounds.{said-last, Gives, gives-first, handed, rounds, Shut, shut-good}
+use Rattle.calls.proofs.Settling.{settle-good, either, verdict-first, verdict-rest}
 use Rattle.calls.proofs.Steps.{Sits, sits-call}
 
 -- ---- one call
@@ -53,12 +53,9 @@ module _ (s : Source) (w : World) (o : List ℕ) where
   -- what it wrote is read back
   lone-named : named (lists s w o) ≡ map (single (itemsFrom s w)) (take room (alone s w))
   unfolding lists
-  lone-named = rw (counted (ltb room (length (alone s w))) (length (take room (alone s w))))
+  lone-named = let n : ℕ = length (take room (alone s w)) in
+      rw (either (λ x. singlesOf x ≡ n) (ltb room (length (alone s w))) MoreLone DoneLone n refl refl)
       (read-told singleAt putSingle singlesNeed single-words (single (itemsFrom s w)) (take room (alone s w)) o (rw length-take (omega arith)))
-    where
-      counted : (u : Bool) (n : ℕ) → singlesOf (cond u MoreLone DoneLone n) ≡ n
-      counted true n = refl
-      counted false n = refl
 
   -- where it leaves the position
   lone-place : placeOf (lists s w o .world) s ≡ onward number (countOf w s) (placeOf w s) room (alone s w)
@@ -78,10 +75,7 @@ module _ (s : Source) (w : World) (o : List ℕ) where
 
   lone-gives : Shut w → 1 ≤ room → Gives (Lone s) MoreLone DoneLone (λ w. length (alone s w)) w o
   unfolding lists
-  lone-gives g h = record {
-    says = ap (λ (r : After). r .answer) (lone-is g h) ∙ said MoreLone DoneLone room (alone s w);
-    rest = ap (λ (r : After). length (alone s (r .world))) (lone-is g h) ∙ ap length (alone-listed (g .fit)) ∙ length-drop room (alone s w);
-  }
+  lone-gives g h = gives-first (Lone s) MoreLone DoneLone (alone s) w o (lists s w o) (lone-is g h) refl (alone-listed (g .fit))
 
   shut-listed : Shut w → 1 ≤ room → Shut (afterCall w o (Lone s) .world)
   unfolding lists pass
@@ -219,10 +213,7 @@ module _ (p m n : ℕ) (a b probe : List ℕ) (e : opens p m n (length a) (lengt
   one-call : bothClosed (w .session) ≡ true → (s : Source) (o : List ℕ) → 1 ≤ singleRoom (length o) → let r = afterCall w o (Lone s) in
       Handed MoreLone DoneLone (toList begun calls s) (singleRoom (length o)) (named r) (r .answer)
   one-call c s o h = let g : Shut w = record { fit = sits .fit; closed = c } in
-      record {
-        writes = ap named (lone-is s w o g h) ∙ lone-named s w o ∙ take-map (single (itemsFrom s w)) (singleRoom (length o)) (alone s w) ∙ ap (take (singleRoom (length o))) (sym (left-alone s));
-        says = lone-gives s w o g h .says ∙ ap (saying MoreLone DoneLone (singleRoom (length o))) (sym (length-left s));
-      }
+      handed MoreLone DoneLone (single (itemsFrom s w)) (alone s w) _ _ (singleRoom (length o)) _ (left-alone s) (ap named (lone-is s w o g h) ∙ lone-named s w o) (lone-gives s w o g h .says)
 
   whole-now : (s : Source) (o : List ℕ) (k : ℕ) → afterCall w o (Lone s) .answer ≡ DoneLone k
       → (x : Single) → listings x (names s ++ named (afterCall w o (Lone s))) ≡ bit (isSingle (itemsFrom s w) x)

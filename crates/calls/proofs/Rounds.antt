@@ -1,20 +1,21 @@
 -- A list handed out call by call: what the call of a given number says, from what one call says and leaves. By induction over the calls.
 -- Drains and lone calls are its two cases. Assumes nothing.
-use mathlib.Core.Path.{_≡_, refl, ap, ap₂, _∙_}
+use mathlib.Core.Path.{_≡_, refl, sym, ap, ap₂, _∙_}
 use mathlib.Core.Bool.{Bool, true, false, cond}
-use mathlib.Core.List.{List, [], _∷_, _++_}
+use mathlib.Core.List.{List, [], _∷_, _++_, map}
 use Prim.Native.Nat.{ℕ, suc, _+_, _*_, _-_, _≤_, min}
 use native.Mathlib.Nat.{suc-mul, one-mul, zero-mul, le-of-suc-le-suc, div-lt-iff-lt-mul}
 use native.Mathlib.Omega.{arith}
 use lib.Dec.{ltb, leb}
-use lib.ListN.{length, take, length-take}
+use lib.ListN.{length, take, drop, length-take, length-drop, length-map}
 use borrow.Author.Tests.{le-leb, lt-leb, ne-eqb}
 use Rattle.stamps.specs.Counting.Laws.{tests}
 use Rattle.sheets.specs.Layout.{Told}
-use Rattle.calls.specs.Calls.{afterCall}
+use Rattle.sheets.proofs.Handing.{take-map}
+use Rattle.calls.specs.Calls.{After, afterCall}
 use Rattle.calls.specs.Demand3.{wrote, run}
 use Rattle.calls.specs.Refusals.{verdict, bothClosed, drainChecks, roomIn}
-use Rattle.calls.specs.Rounds.{again, Rooms, saying, ceil, sayingAt}
+use Rattle.calls.specs.Rounds.{again, Rooms, saying, Handed, ceil, sayingAt}
 use Rattle.calls.specs.World.{World}
 use Rattle.calls.specs.declared.types.Call.{Call}
 use Rattle.calls.specs.declared.types.Answer.{Answer}
@@ -54,6 +55,23 @@ said-last more done apart r xs n = go (ltb r (length xs))
 pub record Gives (c : Call) (more done : ℕ → Answer) (left : World → ℕ) (w : World) (o : List ℕ) : Type 0 where
   pub says : afterCall w o c .answer ≡ saying more done (roomIn c (length o)) (left w)
   pub rest : left (afterCall w o c .world) ≡ left w - roomIn c (length o)
+
+-- x is what it does; xs is what is left, and it gives the first of it
+pub gives-first : {X : Type 0} (c : Call) (more done : ℕ → Answer) (left : World → List X) (w : World) (o : List ℕ) (x : After) → afterCall w o c ≡ x
+    → x .answer ≡ cond (ltb (roomIn c (length o)) (length (left w))) more done (length (take (roomIn c (length o)) (left w)))
+    → left (x .world) ≡ drop (roomIn c (length o)) (left w) → Gives c more done (λ w. length (left w)) w o
+gives-first c more done left w o x e a d = record {
+  says = ap (λ (r : After). r .answer) e ∙ a ∙ said more done (roomIn c (length o)) (left w);
+  rest = ap (λ (r : After). length (left (r .world))) e ∙ ap length d ∙ length-drop (roomIn c (length o)) (left w);
+}
+
+-- the same of what is told of the list
+pub handed : {X Y : Type 0} (more done : ℕ → Answer) (f : X → Y) (xs : List X) (l written : List Y) (r : ℕ) (answer : Answer) → l ≡ map f xs → written ≡ map f (take r xs)
+    → answer ≡ saying more done r (length xs) → Handed more done l r written answer
+handed more done f xs l written r answer e h a = record {
+  writes = h ∙ take-map f r xs ∙ ap (take r) (sym e);
+  says = a ∙ ap (saying more done r) (sym (ap length e ∙ length-map xs f));
+}
 
 -- ---- one after the other
 

@@ -16,6 +16,7 @@ use Rattle.calls.specs.World.{World, sheetOf, countOf, withClock, withSh
 use Rattle.calls.specs.declared.types.Call.{Call}
 use Rattle.calls.specs.declared.types.Why.{Why}
 use Rattle.calls.specs.declared.types.Why.the-variants.{BadSheet}
+use Rattle.calls.specs.declared.types.Answer.{Answer}
 use Rattle.calls.specs.declared.types.Answer.the-variants.{Refused, Flushed}
 use Rattle.calls.specs.declared.types.Session.{Session}
 use Rattle.calls.specs.declared.refusals.Verdict.the-variants.{Good, No}
@@ -28,6 +29,11 @@ settle-no w o c y e = rw e
 pub settle-good : (w : World) (o : List ℕ) (c : Call) (x : After) → verdict (checks w c (roomIn c (length o))) ≡ Good → x ≡ effect w o c → x ≡ afterCall w o c
 unfolding afterCall
 settle-good w o c x e h = rw e h
+
+-- what holds of both answers holds of the one that is given
+pub either : (P : Answer → Type 0) (u : Bool) (more done : ℕ → Answer) (n : ℕ) → P (more n) → P (done n) → P (cond u more done n)
+either P true more done n x y = x
+either P false more done n x y = y
 
 -- ---- checks one after the other
 

@@ -37,7 +37,7 @@ use Rattle.calls.proofs.Arrivals.{count-room}
 use Rattle.calls.proofs.Owing.{Sound, sound-flush, sound-store, sound-note, sound-shut, sound-move, sound-pass}
 use Rattle.calls.proofs.Fitting.{Fit, rows-fit, row-fits, fit-flush, fit-store, listable, fit-note, fit-shut, fit-move, fit-pass}
 use Rattle.calls.proofs.Seen.{both-sources, Extent, Listable, flush-seen}
-use Rattle.calls.proofs.Settling.{verdict-first, verdict-rest}
+use Rattle.calls.proofs.Settling.{either, verdict-first, verdict-rest}
 
 -- what holds between calls
 pub record Sits (w : World) (l : List Told) : Type 0 where
@@ -52,6 +52,9 @@ not-begun w l g e = go (closedOf w A) refl (closedOf w B) refl e
     go false h v k e = g .start A h
     go true h false k e = g .start B k
     go true h true k e = absurd (mathlib.Core.Bool.true≢false e)
+
+pub closed-of : (w : World) → bothClosed (w .session) ≡ true → (s : Source) → closedOf w s ≡ true
+closed-of w h = let c = both (closedOf w A) (closedOf w B) h in both-sources (λ s. closedOf w s ≡ true) A (c .0) (c .1)
 
 -- ---- what was written is read back
 
@@ -128,14 +131,10 @@ module _ (w : World) (l : List Told) (o : List ℕ) (g : Sits w l) where
           rw (reads s (λ i. rowsOf w s i .item) (λ j. rowsOf w (other s) j .item) (ran s q w) o (ltb-false _ _ (verdict-first _ _ (verdict-rest _ _ h₃))))
           (record { sound = sound-note s q w l n z (g .sound); fit = fit-note s q _ w (g .fit) z n })
 
-  -- the two kinds of a drain's answer
-  pairs-drained : (u : Bool) (n : ℕ) → pairsOf (cond u More Done n) ≡ n
-  pairs-drained true n = refl
-  pairs-drained false n = refl
-
   pub drain-wrote : wrote (drains w o) ≡ told A (seenFrom A w) (take (roomOf (length o)) (owed w))
   unfolding drains
-  drain-wrote = rw (pairs-drained (ltb (roomOf (length o)) (length (owed w))) (length (take (roomOf (length o)) (owed w))))
+  drain-wrote = let n : ℕ = length (take (roomOf (length o)) (owed w)) in
+      rw (either (λ x. pairsOf x ≡ n) (ltb (roomOf (length o)) (length (owed w))) More Done n refl refl)
       (reads A (λ i. rowsOf w A i .item) (λ j. rowsOf w B j .item) (take (roomOf (length o)) (owed w)) o (rw length-take (omega arith)))
 
   pub drain-next : Parts (position (seenFrom A w)) (w .session .next) (roomOf (length o)) (countOf w A * countOf w B) (drains w o .world .session .next) (owed w)
@@ -144,17 +143,12 @@ module _ (w : World) (l : List Told) (o : List ℕ) (g : Sits w l) where
 
   sits-drain : verdict (checks w Drain (roomOf (length o))) ≡ Good → Goes (effect w o Drain)
   unfolding checks effect drains move
-  sits-drain h = let c = both (closedOf w A) (closedOf w B) (not-false _ (verdict-first _ _ (verdict-rest _ _ h))) in
-      rw drain-wrote (record { sound = sound-move (roomOf (length o)) _ w l drain-next (both-sources (λ s. closedOf w s ≡ true) A (c .0) (c .1)) (g .sound); fit = fit-move _ w (g .fit) (drain-next .to) })
+  sits-drain h = rw drain-wrote (record { sound = sound-move (roomOf (length o)) _ w l drain-next (closed-of w (not-false _ (verdict-first _ _ (verdict-rest _ _ h)))) (g .sound); fit = fit-move _ w (g .fit) (drain-next .to) })
 
   -- a lone call writes rows, and no pair
   lone-wrote : (s : Source) → wrote (lists s w o) ≡ []
   unfolding lists
-  lone-wrote s = go (ltb (singleRoom (length o)) (length (alone s w)))
-    where
-      go : (u : Bool) → pairsAt (lists s w o .out) 0 (pairsOf (cond u MoreLone DoneLone (length (take (singleRoom (length o)) (alone s w))))) ≡ []
-      go true = refl
-      go false = refl
+  lone-wrote s = either (λ x. pairsAt (lists s w o .out) 0 (pairsOf x) ≡ []) (ltb (singleRoom (length o)) (length (alone s w))) MoreLone DoneLone _ refl refl
 
   sits-lone : (s : Source) → Goes (lists s w o)
   unfolding lists

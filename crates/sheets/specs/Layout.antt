@@ -83,7 +83,7 @@ pairWords x = x .a ∷ x .b ∷ x .key ∷ []
 unfoldable pub putPair : ℕ → Told → List ℕ → List ℕ
 putPair w x o = sets o (3 * w) (pairWords x)
 
--- ---- rows by themselves: "each as (row number, key)", "Two words a row"
+-- ---- rows by themselves: "each as row number and key", "Two words a row"
 
 -- as it stands in an output
 pub record Single : Type 0 where
