@@ -238,9 +238,11 @@ static bool bad_sheet(const session_record *record, const lent_sheets *sheets)
         || record->lone_position[SOURCE_B] > record->rows[SOURCE_B];
 }
 
-static bool bad_key(uint32_t car, uint32_t lap)
+static bool bad_key(named_lap named)
 {
-    return out_of_range(car, 1, 999) || out_of_range(lap, 0, 999);
+    return out_of_range(named.heat, 1, 9)
+        || out_of_range(named.car, 1, 999)
+        || out_of_range(named.lap, 0, 999);
 }
 
 static bool both_closed(const session_record *record)
@@ -293,6 +295,12 @@ answer box_close(session_record *record, const lent_sheets *sheets, uint32_t sou
 
 /* ---- arrival ---- */
 
+/* For a lap that is in range: different ones have different keys. */
+static uint32_t key_of(named_lap named)
+{
+    return named.heat * 1000000 + named.car * 1000 + named.lap;
+}
+
 /* Collects the memory rows of a source that have the key, ascending, leaving
  * out those of the victim if there is one. */
 static uint32_t partners(const session_record *record, const lent_sheets *sheets,
@@ -313,11 +321,11 @@ static uint32_t partners(const session_record *record, const lent_sheets *sheets
 }
 
 answer box_arrive(session_record *record, const lent_sheets *sheets,
-                  uint32_t source, uint32_t car, uint32_t lap)
+                  uint32_t source, named_lap named)
 {
     if (bad_sheet(record, sheets))
         return refused(BAD_SHEET);
-    if (bad_key(car, lap))
+    if (bad_key(named))
         return refused(BAD_KEY);
     if (record->closed[source])
         return refused(CLOSED);
@@ -326,7 +334,7 @@ answer box_arrive(session_record *record, const lent_sheets *sheets,
 
     /* The pairs are those after the flush, but a refused arrival flushes
      * nothing: so they are found first, with the victim thought away. */
-    uint32_t key = car * 1000 + lap;
+    uint32_t key = key_of(named);
     bool full = memory_rows(record, sheets) >= record->memory;
     portion victim = largest_portion(record, sheets);
     uint32_t found[MOST_ROWS];

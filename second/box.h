@@ -1,8 +1,8 @@
 /* The box: two sources, their sheets, and the calls on them.
  *
- * Everything here follows document 01 and the request for lone rows. The sheets
- * belong to the caller and are lent for one call; the session record is the
- * caller's too. */
+ * Everything here follows document 01 and the requests for lone rows and for
+ * heats. The sheets belong to the caller and are lent for one call; the session
+ * record is the caller's too. */
 #ifndef BOX_H
 #define BOX_H
 
@@ -39,6 +39,14 @@ typedef struct {
     uint32_t position;
     uint32_t lone_position[SOURCES];
 } session_record;
+
+/* A lap as a feed names it. Laps are counted from 0 again after a red flag, so
+ * only together with the heat does a number name one lap of a car. */
+typedef struct {
+    uint32_t heat;
+    uint32_t car;
+    uint32_t lap;
+} named_lap;
 
 typedef struct {
     uint32_t *words;
@@ -88,7 +96,7 @@ typedef struct {
 answer box_open(session_record *record, const lent_sheets *sheets,
                 uint32_t partitions, uint32_t memory, uint32_t most_rows);
 answer box_arrive(session_record *record, const lent_sheets *sheets,
-                  uint32_t source, uint32_t car, uint32_t lap);
+                  uint32_t source, named_lap named);
 answer box_evict(session_record *record, const lent_sheets *sheets,
                  uint32_t source, uint32_t partition);
 answer box_run(session_record *record, const lent_sheets *sheets,

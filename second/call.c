@@ -3,11 +3,15 @@
  * answer, the record and every word. A line that is no case prints BAD. A line
  * ends at LF or at the end of input, an empty rest giving no line.
  *
- * A case is: the kind of the call and its three arguments; the record, as P,
- * M, N, clock, rows of A and B, closed A and B, 32 entry counts, position, lone
+ * A case is: the kind of the call and its four arguments; the record, as P, M,
+ * N, clock, rows of A and B, closed A and B, 32 entry counts, position, lone
  * positions of A and B; the lengths of the sheets A, B, probe and output; the
  * words of these sheets. The numbers are decimal, of 32 bits; spaces and tabs
- * part them. */
+ * part them.
+ *
+ * The arguments are P, M, N for an opening; source, heat, car, lap for an
+ * arrival; source, partition for an eviction or a run; source for a close or a
+ * lone call; none for a drain. The rest of the four can be any numbers. */
 #include <stdio.h>
 #include <stdlib.h>
 
@@ -17,6 +21,7 @@ enum {
     MOST_ROW_WORDS = WORDS_A_ROW * MOST_ROWS,
     MOST_PROBE_WORDS = WORDS_A_LIST * LISTS,
     MOST_OUTPUT_WORDS = WORDS_A_PAIR * 512,
+    ARGUMENTS = 4,
     SHEETS = 4
 };
 
@@ -24,7 +29,7 @@ typedef enum { OPEN, ARRIVE, EVICT, RUN, CLOSE, DRAIN, LONE } call_kind;
 
 typedef struct {
     uint32_t kind;
-    uint32_t arguments[3];
+    uint32_t arguments[ARGUMENTS];
     session_record record;
     lent_sheets sheets;
 } call;
@@ -107,7 +112,7 @@ static bool names_source(uint32_t kind)
 
 static bool read_call_itself(call *asked)
 {
-    if (!read_up_to(&asked->kind, LONE) || !read_numbers(asked->arguments, 3))
+    if (!read_up_to(&asked->kind, LONE) || !read_numbers(asked->arguments, ARGUMENTS))
         return false;
     return !names_source(asked->kind) || asked->arguments[0] <= SOURCE_B;
 }
@@ -171,7 +176,8 @@ static answer perform(call *asked)
     case OPEN:
         return box_open(record, &asked->sheets, arguments[0], arguments[1], arguments[2]);
     case ARRIVE:
-        return box_arrive(record, &asked->sheets, arguments[0], arguments[1], arguments[2]);
+        return box_arrive(record, &asked->sheets, arguments[0],
+                          (named_lap){ arguments[1], arguments[2], arguments[3] });
     case EVICT:
         return box_evict(record, &asked->sheets, arguments[0], arguments[1]);
     case RUN:

@@ -143,8 +143,8 @@ static bool read_start(const field *fields, size_t count, command *read)
 static bool read_arrival(const field *fields, size_t count, command *read)
 {
     read->kind = ARRIVE;
-    return count == 3 && read_source(fields[0], &read->source)
-        && read_numbers(fields + 1, 2, read->numbers);
+    return count == 4 && read_source(fields[0], &read->source)
+        && read_numbers(fields + 1, 3, read->numbers);
 }
 
 static bool read_portion(const field *fields, size_t count, command_kind kind, command *read)
@@ -262,13 +262,15 @@ static uint32_t output_length(const command *asked)
 static answer perform(session_record *record, const command *asked)
 {
     lent_sheets sheets = sheets_with_output(output_length(asked));
+    const uint32_t *numbers = asked->numbers;
     switch (asked->kind) {
     case ARRIVE:
-        return box_arrive(record, &sheets, asked->source, asked->numbers[0], asked->numbers[1]);
+        return box_arrive(record, &sheets, asked->source,
+                          (named_lap){ numbers[0], numbers[1], numbers[2] });
     case EVICT:
-        return box_evict(record, &sheets, asked->source, asked->numbers[0]);
+        return box_evict(record, &sheets, asked->source, numbers[0]);
     case RUN:
-        return box_run(record, &sheets, asked->source, asked->numbers[0]);
+        return box_run(record, &sheets, asked->source, numbers[0]);
     case CLOSE:
         return box_close(record, &sheets, asked->source);
     case DRAIN:

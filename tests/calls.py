@@ -3,15 +3,21 @@
 import re
 
 from draws import Draws
-from model import A, B, MOST_ENTRIES, Model
+from model import A, B, MOST_ENTRIES, Model, NamedLap
 
 OPEN, ARRIVE, EVICT, RUN, CLOSE, DRAIN, LONE = range(7)
 MOST_WORD = 4294967295
 MOST_LENGTHS = (12288, 12288, 2048, 1536)
 
-# Cars and laps at the ends of their ranges; 4294968 x 1000 is beyond 32 bits.
-EDGE_KEYS = [(1, 0), (999, 999), (0, 5), (0, 1000), (1000, 0), (1000, 999), (1, 1000), (999, 1000),
-             (4294968, 0), (1, MOST_WORD), (MOST_WORD, MOST_WORD)]
+# In 32 bits, 4295 x 1000000 is too much, and 67108865 x 1000000 is 1000000 again.
+BAD_HEATS = [0, 10, 10, 4295, 67108865, MOST_WORD]
+# Cars and laps at the ends of their ranges; 4294968 x 1000 is beyond 32 bits. Lap 12 of car 1007
+# in heat 0 would have the key of lap 12 of car 7 in heat 1.
+EDGE_LAPS = [(1, 1, 0), (9, 999, 999), (1, 0, 5), (2, 0, 1000), (1, 1000, 0), (9, 1000, 999),
+             (1, 1, 1000), (9, 999, 1000), (0, 1007, 12), (10, 0, 1000), (1, 4294968, 0),
+             (1, 1, MOST_WORD), (MOST_WORD, MOST_WORD, MOST_WORD)]
+
+ARGUMENTS = 4
 
 # Places in the record: P M N clock rowsA rowsB closedA closedB, 32 counts, position, loneA loneB.
 PARTITIONS, MEMORY, MOST_ROWS, CLOCK, ROWS_A, ROWS_B, CLOSED_A, CLOSED_B, COUNTS = range(9)
@@ -19,8 +25,18 @@ POSITION = COUNTS + 32
 LONE_A, LONE_B = POSITION + 1, POSITION + 2
 RECORD_NUMBERS = POSITION + 3
 
+# Places in a line: the kind and the arguments, the record, the lengths of the sheets, their words.
+RECORD = 1 + ARGUMENTS
+LENGTHS = RECORD + RECORD_NUMBERS
+WORDS = LENGTHS + 4
+
 # Places among the sheets.
 SHEET_A, SHEET_B, PROBE, OUTPUT = range(4)
+
+
+def four(*arguments):
+    """The arguments of a call, with zeros for those that it does not use."""
+    return [*arguments, *[0] * (ARGUMENTS - len(arguments))]
 
 
 class Call:
@@ -78,7 +94,7 @@ def words_of(draws, model):
     extra = draws.pick([0, 0, 0, 1, 3, 40])
     sheets = []
     for source in (A, B):
-        words = [word for row in model.rows[source] for word in row]
+        words = [word for lap, *stamps in model.rows[source] for word in (lap.key(), *stamps)]
         sheets.append(words + blank(3 * model.most_rows - len(words) + extra))
     probe = blank(128 * model.partitions)
     for source in (A, B):
@@ -94,30 +110,36 @@ def words_of(draws, model):
     return record, sheets
 
 
-def draw_keys(draws):
-    """Cars and laps, few enough that rows match often."""
-    return [(draws.pick([1, 7, 7, 999]), draws.pick([0, 12, 13, 14, 999]))
-            for _ in range(draws.pick([1, 1, 2, 3, 4]))]
+def draw_laps(draws):
+    """Laps, few enough that rows match often, most often the same ones in more
+    than one heat."""
+    heats = draws.pick([[1], [9], [1, 2], [1, 2], [1, 9], [1, 2, 3]])
+    laps = []
+    for _ in range(draws.pick([1, 1, 1, 2, 3])):
+        car, lap = draws.pick([1, 7, 7, 999]), draws.pick([0, 12, 13, 14, 999])
+        laps += [NamedLap(heat, car, lap) for heat in heats]
+    return laps
 
 
-def key_of_row(draws, source, keys, lone_share):
-    """One of the keys, or, as often as the share says, a key of one source alone."""
+def lap_of_row(draws, source, laps, lone_share):
+    """One of the laps, or, as often as the share says, a lap of one source
+    alone, by its heat or by its car."""
     if draws.chance(lone_share):
-        return 5 + source, draws.pick([0, 12])
-    return draws.pick(keys)
+        return draws.pick([draws.pick(laps)._replace(heat=4 + source),
+                           NamedLap(draws.pick([1, 2]), 5 + source, draws.pick([0, 12]))])
+    return draws.pick(laps)
 
 
-def partition_of(draws, model, keys):
+def partition_of(draws, model, laps):
     if draws.chance(0.15):
         return draws.below(model.partitions)
-    car, lap = draws.pick(keys)
-    return (car * 1000 + lap) % model.partitions
+    return model.partition_of(draws.pick(laps))
 
 
-def simulated(draws, keys, lone_share):
+def simulated(draws, laps, lone_share):
     """A model after some accepted calls."""
     if draws.chance(0.08):
-        return with_full_list(draws, keys)
+        return with_full_list(draws, laps)
     model = Model(draws.pick([1, 1, 1, 2, 2, 3, 5, 16]), draws.pick([1, 2, 3, 4, 5, 6, 8, 1024]),
                   draws.pick([1, 2, 4, 6, 8, 12, 20]))
     weights = {"ARRIVE": 6, "EVICT": draws.pick([0, 1, 3]), "RUN": draws.pick([0, 1, 3])}
@@ -125,25 +147,25 @@ def simulated(draws, keys, lone_share):
         word = draws.weighted(weights)
         source = draws.below(2)
         if word == "ARRIVE":
-            model.follow((word, source, *key_of_row(draws, source, keys, lone_share)), 512)
+            model.follow((word, source, *lap_of_row(draws, source, laps, lone_share)), 512)
         else:
-            model.follow((word, source, partition_of(draws, model, keys)), 512)
+            model.follow((word, source, partition_of(draws, model, laps)), 512)
     return model
 
 
-def with_full_list(draws, keys):
+def with_full_list(draws, laps):
     """A model with 31 or 32 entries in one list."""
     model = Model(draws.pick([1, 2]), draws.pick([3, 8, 64]), 64)
     source = draws.below(2)
-    car, lap = draws.pick(keys)
-    partition = (car * 1000 + lap) % model.partitions
-    model.follow(("ARRIVE", source, car, lap), 512)
+    lap = draws.pick(laps)
+    partition = model.partition_of(lap)
+    model.follow(("ARRIVE", source, *lap), 512)
     model.follow(("EVICT", source, partition), 512)
     for _ in range(MOST_ENTRIES - draws.below(2)):
-        model.follow(("ARRIVE", draws.below(2), *draws.pick(keys)), 512)
+        model.follow(("ARRIVE", draws.below(2), *draws.pick(laps)), 512)
         model.follow(("RUN", source, partition), 512)
     if draws.chance(0.6):
-        model.follow(("ARRIVE", draws.below(2), *draws.pick(keys)), 512)
+        model.follow(("ARRIVE", draws.below(2), *draws.pick(laps)), 512)
     return model
 
 
@@ -170,32 +192,34 @@ def promising_run(model):
                                          not model.run_idle(*at), model.run_pairs(*at)))
 
 
-def arguments_for(draws, model, kind, keys):
+def arguments_for(draws, model, kind, laps):
     source = draws.below(2)
     if kind == OPEN and draws.chance(0.5):
-        return [model.partitions, model.memory, model.most_rows]
+        return four(model.partitions, model.memory, model.most_rows)
     if kind == OPEN:
-        return [draws.pick([0, 1, 2, 3, 15, 16, 17, MOST_WORD]),
-                draws.pick([0, 1, 2, 1023, 1024, 1025, MOST_WORD]),
-                draws.pick([0, 1, model.most_rows, model.most_rows + 1, 4096, 4097, MOST_WORD])]
+        return four(draws.pick([0, 1, 2, 3, 15, 16, 17, MOST_WORD]),
+                    draws.pick([0, 1, 2, 1023, 1024, 1025, MOST_WORD]),
+                    draws.pick([0, 1, model.most_rows, model.most_rows + 1, 4096, 4097, MOST_WORD]))
     if kind == ARRIVE:
         if draws.chance(0.15):
-            return [source, *draws.pick(EDGE_KEYS)]
-        return [source, *draws.pick(keys)]
+            return four(source, *draws.pick(EDGE_LAPS))
+        lap = draws.pick(laps)
+        if draws.chance(0.1):
+            lap = lap._replace(heat=draws.pick(BAD_HEATS))
+        return four(source, *lap)
     if kind in (EVICT, RUN):
         if draws.chance(0.1):
-            return [source, draws.pick([model.partitions, 16, 32, MOST_WORD]), 0]
+            return four(source, draws.pick([model.partitions, 16, 32, MOST_WORD]))
         if kind == RUN and draws.chance(0.7):
-            return [*promising_run(model), 0]
-        return [source, partition_of(draws, model, keys), 0]
-    return [source if kind in (CLOSE, LONE) else 0, 0, 0]
+            return four(*promising_run(model))
+        return four(source, partition_of(draws, model, laps))
+    return four(source) if kind in (CLOSE, LONE) else four()
 
 
 def needed(model, kind, arguments):
     """How many pairs or lone rows the call would write, given room."""
     if kind == ARRIVE:
-        source, car, lap = arguments
-        return model.arrival_pairs(source, car * 1000 + lap)
+        return model.arrival_pairs(arguments[0], NamedLap(*arguments[1:]))
     if kind == RUN and arguments[1] < model.partitions:
         return model.run_pairs(*arguments[:2])
     if kind == DRAIN:
@@ -214,12 +238,12 @@ def output_for(draws, kind, count):
 
 
 def built_call(draws):
-    keys = draw_keys(draws)
+    laps = draw_laps(draws)
     kind = draws.weighted({OPEN: 1, ARRIVE: 7, EVICT: 2, RUN: 10, CLOSE: 1, DRAIN: 8, LONE: 4})
     lone_share = draws.pick([0.2, 0.5, 0.8] if kind == LONE else [0, 0, 0, 0.2])
-    model = simulated(draws, keys, lone_share)
+    model = simulated(draws, laps, lone_share)
     closed_for(draws, model, kind)
-    arguments = arguments_for(draws, model, kind, keys)
+    arguments = arguments_for(draws, model, kind, laps)
     record, sheets = words_of(draws, model)
     output = output_for(draws, kind, needed(model, kind, arguments))
     return Call(kind, arguments, record, [*sheets, output])
@@ -257,7 +281,7 @@ def change_word(draws, call):
     words = call.sheets[sheet]
     used = 3 * call.record[ROWS_A + sheet] if sheet != PROBE else len(words)
     value = draws.pick([0, 1, call.record[CLOCK], call.record[CLOCK] + 1, draws.below(30),
-                        1000, 7012, MOST_WORD, 2147483648])
+                        7012, 1007012, 2007012, MOST_WORD, 2147483648])
     words[draws.below(min(max(used, 1), len(words)))] = value
 
 
@@ -269,14 +293,20 @@ def shorten(draws, call):
     del call.sheets[sheet][length:]
 
 
+def lap_with_key(key):
+    """The lap with this key; out of range if there is none."""
+    return NamedLap(key // 1000000, key // 1000 % 1000, key % 1000)
+
+
 def wild_call(draws):
     """Small numbers everywhere, whether calls could have left them or not."""
     kind = draws.weighted({ARRIVE: 3, EVICT: 1, RUN: 5, CLOSE: 0.3, DRAIN: 5, LONE: 2})
     partitions = draws.pick([1, 1, 1, 2, 3])
     most_rows = draws.between(1, 7)
-    keys = draws.pick([[7012], [7012, 7013], [1000, 1001, 2000, 0], [0, 1, 999999, MOST_WORD]])
+    keys = draws.pick([[1007012], [1007012, 2007012], [1001000, 1001001, 1002000, 0],
+                       [7012, 1007012], [0, 1, 9999999, MOST_WORD]])
     if kind == LONE and draws.chance(0.5):
-        keys = list(range(7010, 7020))
+        keys = [*range(1007010, 1007015), *range(2007010, 2007015)]
     stamps = draws.pick([4, 8, 14])
 
     def stamp():
@@ -299,12 +329,12 @@ def wild_call(draws):
     sheets.append([draws.below(50) for _ in range(draws.pick([0, 2, 3, 6, 12, 30, 60, 150]))])
     key = draws.pick(keys)
     if kind == ARRIVE:
-        good = 1000 <= key <= 999999
-        arguments = [draws.below(2), *(divmod(key, 1000) if good else (7, 12))]
+        lap = lap_with_key(key)
+        arguments = four(draws.below(2), *(lap if lap.in_range() else (1, 7, 12)))
     elif kind in (EVICT, RUN):
-        arguments = [draws.below(2), key % partitions, 0]
+        arguments = four(draws.below(2), key % partitions)
     else:
-        arguments = [draws.below(2) if kind in (CLOSE, LONE) else 0, 0, 0]
+        arguments = four(draws.below(2)) if kind in (CLOSE, LONE) else four()
     return Call(kind, arguments, record, sheets)
 
 
@@ -314,13 +344,9 @@ def random_call(draws):
         return draws.pick([0, 1, 2, 3, draws.below(40), draws.below(5000), draws.below(MOST_WORD)])
 
     kind = draws.below(7)
-    arguments = [draws.below(2) if kind not in (OPEN, DRAIN) else 0, 0, 0]
-    if kind == OPEN:
-        arguments = [number(), number(), number()]
-    elif kind == ARRIVE:
-        arguments[1:] = [number(), number()]
-    elif kind in (EVICT, RUN):
-        arguments[1] = number()
+    arguments = [number() for _ in range(ARGUMENTS)]
+    if kind not in (OPEN, DRAIN):
+        arguments[0] = draws.below(2)
     record = [number() for _ in range(RECORD_NUMBERS)]
     record[CLOSED_A] %= 2
     record[CLOSED_B] %= 2
@@ -332,16 +358,21 @@ def random_call(draws):
 def large_call(draws):
     """Sheets of the largest lengths."""
     partitions = draws.pick([1, 7, 16])
+    heats = draws.pick([1, 2, 9])
     spread = draws.pick([40, 400, 4000])
     rows = [draws.pick([4095, 4096]), draws.pick([20, 4095])]
     memory_share = draws.pick([0.01, 0.2])
     kind = draws.pick([ARRIVE, EVICT, RUN, DRAIN, LONE])
+
+    def draw_key():
+        return 1000000 * draws.between(1, heats) + 1000 + draws.below(spread)
+
     sheets = []
     for _ in (A, B):
         words = []
         for _ in range(4096):
             dts = 0 if draws.chance(memory_share) else 1 + draws.below(16384)
-            words += [1000 + draws.below(spread), 1 + draws.below(16384), dts]
+            words += [draw_key(), 1 + draws.below(16384), dts]
         sheets.append(words)
     sheets.append([draws.below(16384) for _ in range(2048)])
     sheets.append([0] * draws.pick([0, 3, 1535, 1536]))
@@ -350,12 +381,12 @@ def large_call(draws):
               closed, closed, *[draws.pick([0, 5, 31])] * 32,
               rows[A] * rows[B] - draws.below(min(rows[A] * rows[B], 400000)),
               *[draws.pick([0, draws.below(count)]) for count in rows]]
-    key = 1000 + draws.below(spread)
-    arguments = [draws.below(2), *divmod(key, 1000)]
+    key = draw_key()
+    arguments = four(draws.below(2), *lap_with_key(key))
     if kind in (EVICT, RUN):
-        arguments = [draws.below(2), key % partitions, 0]
+        arguments = four(draws.below(2), key % partitions)
     elif kind in (DRAIN, LONE):
-        arguments = [draws.below(2) if kind == LONE else 0, 0, 0]
+        arguments = four(draws.below(2)) if kind == LONE else four()
     return Call(kind, arguments, record, sheets)
 
 
@@ -364,7 +395,7 @@ def large_call(draws):
 def spoilt(draws, call):
     """The input with its form broken, or with more after its end."""
     tokens = [b"%d" % token for token in call.tokens()]
-    at = draws.pick([draws.below(4), draws.below(12), draws.below(8 + RECORD_NUMBERS),
+    at = draws.pick([draws.below(RECORD), draws.below(RECORD + 8), draws.below(WORDS),
                      draws.below(len(tokens)), len(tokens) - 1])
     how = draws.weighted({"token": 4, "few": 2, "kind": 1, "source": 1, "closed": 1, "length": 2,
                           "blanks": 2, "zeros": 1, "more": 2, "cut": 1})
@@ -379,11 +410,11 @@ def spoilt(draws, call):
         tokens[0] = draws.pick([b"1", b"2", b"3", b"4", b"6"])
         tokens[1] = draws.pick([b"2", b"4294967295"])
     elif how == "closed":
-        tokens[4 + draws.pick([CLOSED_A, CLOSED_B])] = draws.pick([b"2", b"4294967295"])
+        tokens[RECORD + draws.pick([CLOSED_A, CLOSED_B])] = draws.pick([b"2", b"4294967295"])
     elif how == "length":
         sheet = draws.below(4)
         beyond = MOST_LENGTHS[sheet] + 1
-        tokens[4 + RECORD_NUMBERS + sheet] = draws.pick([b"%d" % beyond, b"4294967295"])
+        tokens[LENGTHS + sheet] = draws.pick([b"%d" % beyond, b"4294967295"])
         tokens += [b"0"] * beyond
     elif how == "zeros":
         tokens[at] = tokens[at].rjust(draws.pick([10, 11, 30]), b"0")

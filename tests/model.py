@@ -1,14 +1,29 @@
 """A model of the box on Python lists.
 
 It steers the drawing of cases: which rooms are exact, when a list is full,
-how many drains are left, which rows are lone. No program is judged by it."""
+how many drains are left, which rows are lone. No program is judged by it, but
+for what a named lap is."""
+
+from collections import Counter
+from typing import NamedTuple
 
 A, B = 0, 1
 MOST_ENTRIES = 32
 
 
-def key_of(car, lap):
-    return car * 1000 + lap
+class NamedLap(NamedTuple):
+    """A lap as a line names it, in range or not. Rows match by it: its key is
+    for the sheets, the outputs and the partitions."""
+
+    heat: int
+    car: int
+    lap: int
+
+    def key(self):
+        return self.heat * 1000000 + self.car * 1000 + self.lap
+
+    def in_range(self):
+        return 1 <= self.heat <= 9 and 1 <= self.car <= 999 and 0 <= self.lap <= 999
 
 
 class Model:
@@ -17,14 +32,17 @@ class Model:
         self.memory = memory
         self.most_rows = most_rows
         self.clock = 0
-        self.rows = ([], [])  # of [key, ATS, DTS]
+        self.rows = ([], [])  # of [named lap, ATS, DTS]
         self.closed = [False, False]
         self.lists = [[[] for _ in range(partitions)] for _ in (A, B)]  # of (DTS-last, ProbeTS)
         self.position = 0
         self.lone_positions = [0, 0]
 
+    def partition_of(self, lap):
+        return lap.key() % self.partitions
+
     def portion(self, source, partition):
-        return [row for row in self.rows[source] if row[0] % self.partitions == partition]
+        return [row for row in self.rows[source] if self.partition_of(row[0]) == partition]
 
     def flush(self, source, partition):
         for row in self.portion(source, partition):
@@ -34,34 +52,31 @@ class Model:
 
     def victim(self):
         """The portion that an arrival would flush first, or None."""
-        sizes = [[0] * self.partitions, [0] * self.partitions]
-        for source in (A, B):
-            for key, _, dts in self.rows[source]:
-                if dts == 0:
-                    sizes[source][key % self.partitions] += 1
-        if sum(sizes[A]) + sum(sizes[B]) < self.memory:
+        laps = [[lap for lap, _, dts in rows if dts == 0] for rows in self.rows]
+        if len(laps[A]) + len(laps[B]) < self.memory:
             return None
+        sizes = [Counter(map(self.partition_of, own)) for own in laps]
         portions = [(source, part) for source in (A, B) for part in range(self.partitions)]
         return max(portions, key=lambda at: sizes[at[0]][at[1]])
 
-    def arrival_pairs(self, source, key):
+    def arrival_pairs(self, source, lap):
         """How many pairs an arrival would write."""
-        if self.victim() == (1 - source, key % self.partitions):
+        if self.victim() == (1 - source, self.partition_of(lap)):
             return 0
-        return sum(row[0] == key and row[2] == 0 for row in self.rows[1 - source])
+        return sum(row[0] == lap and row[2] == 0 for row in self.rows[1 - source])
 
-    def arrive(self, source, key):
+    def arrive(self, source, lap):
         victim = self.victim()
         if victim:
             self.flush(*victim)
         self.clock += 1
-        self.rows[source].append([key, self.clock, 0])
+        self.rows[source].append([lap, self.clock, 0])
 
     def used_by_run(self, source, spooled, probed):
-        key, _, dts = spooled
+        lap, _, dts = spooled
         return dts != 0 and any(
             dts <= dts_last and probed[1] <= at and (probed[2] == 0 or at < probed[2])
-            for dts_last, at in self.lists[source][key % self.partitions])
+            for dts_last, at in self.lists[source][self.partition_of(lap)])
 
     def done_before(self, a, b):
         together = (b[2] == 0 or a[1] < b[2]) and (a[2] == 0 or b[1] < a[2])
@@ -120,11 +135,11 @@ class Model:
         """Does what an accepted call does; a refused one does nothing."""
         word, *numbers = command
         if word == "ARRIVE":
-            source, car, lap = numbers
-            good = 1 <= car <= 999 and lap <= 999 and not self.closed[source]
+            source, lap = numbers[0], NamedLap(*numbers[1:])
+            good = lap.in_range() and not self.closed[source]
             if good and len(self.rows[source]) < self.most_rows \
-                    and self.arrival_pairs(source, key_of(car, lap)) <= room:
-                self.arrive(source, key_of(car, lap))
+                    and self.arrival_pairs(source, lap) <= room:
+                self.arrive(source, lap)
         elif word == "CLOSE":
             self.closed[numbers[0]] = True
         elif word == "DRAIN":

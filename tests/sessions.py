@@ -4,7 +4,7 @@ import re
 from collections import Counter
 
 from draws import Draws
-from model import A, B, MOST_ENTRIES, Model
+from model import A, B, MOST_ENTRIES, Model, NamedLap
 
 SHEET_ROWS = 1024
 OUTPUT_ROOM = 512
@@ -19,7 +19,7 @@ _FORMS = [
     (form, re.compile(rb"[ \t]*" + rb",".join([word + rb"[ \t]*", *fields])))
     for form, word, fields in [
         ("START", rb"START", [_NUMBER] * 3),
-        ("ARRIVE", rb"([AB])", [_NUMBER] * 2),
+        ("ARRIVE", rb"([AB])", [_NUMBER] * 3),
         ("EVICT", rb"EVICT", [_SOURCE, _NUMBER]),
         ("RUN", rb"RUN", [_SOURCE, _NUMBER]),
         ("CLOSE", rb"CLOSE", [_SOURCE]),
@@ -43,6 +43,11 @@ def read_line(line):
                 return None
             return (form, *numbers)
     return None
+
+
+def names_no_lap(command):
+    """Whether a command is an arrival whose heat, car or lap is out of range."""
+    return command[0] == "ARRIVE" and not NamedLap(*command[2:]).in_range()
 
 
 def split_lines(text):
@@ -78,15 +83,14 @@ class Watcher:
         if answer[0] == b"NO":
             self.see_refusal(command, pairs + lone_rows, answer)
             return
-        if command is None or not (self.started or command[0] == "START"):
+        if command is None or not (self.started or command[0] == "START") or names_no_lap(command):
             raise Unsound("accepted, but should be refused")
         word, *numbers = command
         if word == "START":
             self.started = True
             self.begin()
         elif word == "ARRIVE":
-            source, car, lap = numbers
-            self.rows[source].append(car * 1000 + lap)
+            self.rows[numbers[0]].append(NamedLap(*numbers[1:]))
         if word == "LONE":
             self.see_lone(*numbers, pairs, lone_rows, answer)
             return
@@ -109,11 +113,14 @@ class Watcher:
         unstarted = command is not None and command[0] != "START" and not self.started
         if (answer[1] == b"10") != unstarted:
             raise Unsound("NO 10 is for good lines before a START, and for no others")
+        bad_key = command is not None and self.started and names_no_lap(command)
+        if (answer[1] == b"2") != bad_key:
+            raise Unsound("NO 2 is for arrivals out of range, and for no others")
 
     def see_pair(self, a, b, key):
         if a >= len(self.rows[A]) or b >= len(self.rows[B]):
             raise Unsound(f"pair {a} {b} names a row that was never accepted")
-        if not self.rows[A][a] == self.rows[B][b] == key:
+        if self.rows[A][a] != self.rows[B][b] or self.rows[A][a].key() != key:
             raise Unsound(f"pair {a} {b} {key} does not match")
         if (a, b) in self.written:
             raise Unsound(f"pair {a} {b} twice")
@@ -122,8 +129,8 @@ class Watcher:
     def left(self):
         """Pairs of the join not yet written. Written pairs match and are all
         different, so this is 0 exactly when they are the join."""
-        keys_b = Counter(self.rows[B])
-        return sum(keys_b[key] for key in self.rows[A]) - len(self.written)
+        laps_b = Counter(self.rows[B])
+        return sum(laps_b[lap] for lap in self.rows[A]) - len(self.written)
 
     def see_lone(self, source, room, pairs, lone_rows, answer):
         if pairs:
@@ -141,8 +148,8 @@ class Watcher:
         """The rows without a partner that are not yet listed, with their keys.
         Each list so far had the first of them, so they are those after it."""
         others = set(self.rows[1 - source])
-        lone_rows = [(number, key) for number, key in enumerate(self.rows[source])
-                     if key not in others]
+        lone_rows = [(number, lap.key()) for number, lap in enumerate(self.rows[source])
+                     if lap not in others]
         return lone_rows[self.listed[source]:]
 
 
@@ -277,9 +284,11 @@ class Session:
         self.draws = draws
         self.lines = []
         self.model = None
-        self.keys = [self.draw_key() for _ in range(draws.pick([1, 1, 2, 2, 3, 4, 6]))]
-        # Keys of one source alone, and how many of its rows have one of them.
-        self.lone_keys = [[(5 + source, draws.pick([0, 12, 999])) for _ in range(2)]
+        self.laps = self.draw_laps()
+        # Laps of one source alone, one by its heat and one by its car, and how many of its rows
+        # have one of them.
+        self.lone_laps = [[draws.pick(self.laps)._replace(heat=4 + source),
+                           NamedLap(draws.pick([1, 2]), 5 + source, draws.pick([0, 12, 999]))]
                           for source in (A, B)]
         self.lone_share = draws.pick([0, 0, 0.2, 0.5])
         self.dress = draws.pick([0, 0, 0, 0.3])
@@ -296,10 +305,16 @@ class Session:
             "lone": draws.pick([0, 0.5]),
         }
 
-    def draw_key(self):
+    def draw_laps(self):
+        """A few laps, most often the same ones in more than one heat."""
         draws = self.draws
-        car = draws.pick([1, 7, 7, 999, draws.between(1, 999)])
-        return car, draws.pick([0, 12, 13, 999, draws.between(0, 999)])
+        heats = draws.pick([[1], [9], [1, 2], [1, 2], [2, 3], [1, 9], [1, 2, 3]])
+        laps = []
+        for _ in range(draws.pick([1, 1, 2, 2, 3])):
+            car = draws.pick([1, 7, 7, 999, draws.between(1, 999)])
+            lap = draws.pick([0, 12, 13, 999, draws.between(0, 999)])
+            laps += [NamedLap(heat, car, lap) for heat in heats]
+        return laps
 
     def put(self, line):
         self.lines.append(line)
@@ -328,8 +343,7 @@ class Session:
     def partition(self):
         if self.draws.chance(0.15):
             return self.draws.below(self.model.partitions)
-        car, lap = self.draws.pick(self.keys)
-        return (car * 1000 + lap) % self.model.partitions
+        return self.model.partition_of(self.draws.pick(self.laps))
 
     def source(self):
         return self.draws.pick(LETTER)
@@ -357,16 +371,17 @@ class Session:
 
     def arrive(self):
         source = self.draws.below(2)
-        keys = self.lone_keys[source] if self.draws.chance(self.lone_share) else self.keys
-        self.say(LETTER[source], *self.draws.pick(keys))
+        laps = self.lone_laps[source] if self.draws.chance(self.lone_share) else self.laps
+        self.say(LETTER[source], *self.draws.pick(laps))
 
     def refused(self):
         """A good line that the box refuses, most often."""
         draws = self.draws
         partition = draws.pick([self.model.partitions, 16, 17, 32, 9999])
         self.say(*draws.pick([
-            (self.source(), 0, 5), (self.source(), 1000, 5), (self.source(), 9999, 0),
-            (self.source(), 7, 1000), (self.source(), 0, 1000),
+            (self.source(), 0, 7, 5), (self.source(), 10, 7, 5), (self.source(), 9999, 7, 0),
+            (self.source(), 1, 0, 5), (self.source(), 2, 1000, 5), (self.source(), 1, 9999, 0),
+            (self.source(), 9, 7, 1000), (self.source(), 1, 0, 1000), (self.source(), 0, 1007, 12),
             (b"EVICT", self.source(), partition), (b"RUN", self.source(), partition),
             (b"START", 0, 1, 1), (b"START", 17, 1, 1), (b"START", 1, 0, 1), (b"START", 1, 1025, 1),
             (b"START", 1, 1, 0), (b"START", 1, 1, 1025), (b"START", 1, 1, 4096),
@@ -436,12 +451,12 @@ class Session:
         self.put(b"START,%d,%d,%d" % (draws.pick([1, 2, 16]), draws.pick([6, 40, 1024]),
                                       draws.pick([40, 60])))
         own = draws.below(2)
-        key = draws.pick(self.keys)
-        partition = (key[0] * 1000 + key[1]) % self.model.partitions
-        self.say(LETTER[own], *key)
+        lap = draws.pick(self.laps)
+        partition = self.model.partition_of(lap)
+        self.say(LETTER[own], *lap)
         self.say(b"EVICT", LETTER[own], partition)
         for _ in range(MOST_ENTRIES + draws.between(0, 3)):
-            self.say(LETTER[draws.below(2)], *draws.pick(self.keys))
+            self.say(LETTER[draws.below(2)], *draws.pick(self.laps))
             self.say(b"RUN", LETTER[own], partition)
             if draws.chance(0.2):
                 self.step()
@@ -451,27 +466,27 @@ class Session:
     def many_pairs(self):
         """Arrivals or runs with about as many pairs as the output has room."""
         draws = self.draws
-        key = self.keys[0]
+        lap = self.laps[0]
         own = draws.below(2)
         self.put(b"START,%d,%d,%d" % (draws.pick([1, 3]), draws.pick([600, 1024]),
                                       draws.pick([600, SHEET_ROWS])))
-        partition = (key[0] * 1000 + key[1]) % self.model.partitions
+        partition = self.model.partition_of(lap)
         if draws.chance(0.2):
-            self.put_many(LETTER[own], key, OUTPUT_ROOM + draws.between(-2, 2))
-            self.say(LETTER[1 - own], *key)
-            self.say(LETTER[1 - own], *key)
+            self.put_many(LETTER[own], lap, OUTPUT_ROOM + draws.between(-2, 2))
+            self.say(LETTER[1 - own], *lap)
+            self.say(LETTER[1 - own], *lap)
         else:
             rows, others = draws.pick([(16, 32), (19, 27), (27, 19), (32, 16), (8, 64)])
-            self.put_many(LETTER[own], key, rows)
+            self.put_many(LETTER[own], lap, rows)
             self.say(b"EVICT", LETTER[own], partition)
-            self.put_many(LETTER[1 - own], key, others)
+            self.put_many(LETTER[1 - own], lap, others)
             self.say(b"RUN", LETTER[own], partition)
             self.say(b"RUN", LETTER[own], partition)
         self.steps(6)
 
-    def put_many(self, letter, key, count):
+    def put_many(self, letter, lap, count):
         for _ in range(count):
-            self.put(b"%s,%d,%d" % (letter, *key))
+            self.put(b"%s,%d,%d,%d" % (letter, *lap))
 
     def full_sheet(self):
         """As many rows as a sheet holds, and one more."""
@@ -480,9 +495,10 @@ class Session:
         self.put(b"START,16,%d,%d" % (draws.pick([20, 200, 1024]), rows))
         own = draws.below(2)
         for number in range(rows + 1):
-            self.lines.append(b"%s,%d,%d" % (LETTER[own], 1 + number % 37, number % 5))
+            lap = (1 + number % 2, 1 + number % 37, number % 5)
+            self.lines.append(b"%s,%d,%d,%d" % (LETTER[own], *lap))
             if draws.chance(0.02):
-                self.lines.append(b"%s,%d,%d" % (LETTER[1 - own], 1 + number % 37, number % 5))
+                self.lines.append(b"%s,%d,%d,%d" % (LETTER[1 - own], *lap))
         self.lines += [b"EVICT,A,3", b"RUN,A,3", b"RUN,B,3", b"CLOSE,A", b"CLOSE,B",
                        b"DRAIN,%d" % draws.pick([1, 40]), b"LONE,A,512", b"LONE,B,512",
                        b"DRAIN,512", b"LONE,A,%d" % draws.pick([1, 40]), b"LONE,B,512"]
@@ -514,7 +530,7 @@ class SessionCase:
         if kind != "full_sheet" and draws.chance(0.85):
             session.finish()
         if self.alone and draws.chance(0.5):
-            session.put(odd_line(draws, draws.pick([b"A,7,12", b"DRAIN,1", b"LONE,A,1"])))
+            session.put(odd_line(draws, draws.pick([b"A,1,7,12", b"DRAIN,1", b"LONE,A,1"])))
         self.text = b"\n".join(session.lines)
         if not self.alone or draws.chance(0.3):
             self.text += b"\n"
@@ -523,7 +539,7 @@ class SessionCase:
     def unstarted(session):
         draws = session.draws
         for _ in range(draws.between(1, 6)):
-            line = draws.pick([b"A,7,12", b"B,0,0", b"EVICT,A,0", b"RUN,B,99", b"CLOSE,A",
-                               b"DRAIN,0", b"DRAIN,512", b"DRAIN,513", b"LONE,A,0", b"LONE,B,512",
-                               b"LONE,B,513", b"START,0,1,1", b"START,1,1,1025"])
+            line = draws.pick([b"A,1,7,12", b"A,7,12", b"B,0,0,0", b"EVICT,A,0", b"RUN,B,99",
+                               b"CLOSE,A", b"DRAIN,0", b"DRAIN,512", b"DRAIN,513", b"LONE,A,0",
+                               b"LONE,B,512", b"LONE,B,513", b"START,0,1,1", b"START,1,1,1025"])
             session.put(odd_line(draws, line) if draws.chance(0.3) else line)

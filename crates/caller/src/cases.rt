@@ -1,4 +1,4 @@
-// A case: what its numbers ask for, and the answer to it. In their order the numbers are the kind of the call and its three
+// A case: what its numbers ask for, and the answer to it. In their order the numbers are the kind of the call and its four
 // arguments; the record, as P, M, N, clock, rows of A and of B, closed A and B, 32 entry counts, position, lone positions
 // of A and B; the lengths of the sheets A, B, probe and output; and then the words of these sheets.
 use crate::printing::TEXT;
@@ -17,23 +17,24 @@ use stamps::Message;
 use stamps::Source;
 ghost use Prim.Native.Nat.{_+_, _≤_};
 ghost use lib.ListN.{length};
+ghost use Rattle.caller.specs.Cases.{caseHead};
 
 // Places among the numbers: the record and its parts, the sizes of the sheets, and the sheets themselves.
-const RECORD: usize = 4;
+const RECORD: usize = 5;
 
-const ROWS: usize = 8;
+const ROWS: usize = RECORD + 4;
 
-const CLOSED: usize = 10;
+const CLOSED: usize = ROWS + 2;
 
-const COUNTS: usize = 12;
+const COUNTS: usize = CLOSED + 2;
 
-const POSITION: usize = 44;
+const POSITION: usize = COUNTS + 32;
 
-const LONE: usize = 45;
+const LONE: usize = POSITION + 1;
 
-const SIZES: usize = 47;
+const SIZES: usize = LONE + 2;
 
-const SHEETS: usize = 51;
+const SHEETS: usize = SIZES + 4;
 
 pub const ROW_WORDS: usize = 12288;
 
@@ -51,12 +52,19 @@ enum Asked {
     Nothing,
 }
 
-// A call that names its source.
-fn sourced(kind: u32, source: Source, y: u32, z: u32) -> Asked {
+// A call that names its source, with the other arguments.
+fn sourced(kind: u32, source: Source, second: u32, third: u32, fourth: u32) -> Asked {
     match kind {
-        1 => Asked::Perform(Call::Arrive(source, Message { car: y, lap: z })),
-        2 => Asked::Perform(Call::Evict(source, y)),
-        3 => Asked::Perform(Call::Run(source, y)),
+        1 => Asked::Perform(Call::Arrive(
+            source,
+            Message {
+                heat: second,
+                car: third,
+                lap: fourth,
+            },
+        )),
+        2 => Asked::Perform(Call::Evict(source, second)),
+        3 => Asked::Perform(Call::Run(source, second)),
         4 => Asked::Perform(Call::Close(source)),
         6 => Asked::Perform(Call::Lone(source)),
         _ => Asked::Nothing,
@@ -64,22 +72,22 @@ fn sourced(kind: u32, source: Source, y: u32, z: u32) -> Asked {
 }
 
 // The call of a kind with its arguments; the source is the first of them.
-fn asked_of(kind: u32, x: u32, y: u32, z: u32) -> Asked {
+fn asked_of(kind: u32, first: u32, second: u32, third: u32, fourth: u32) -> Asked {
     if kind == 0 {
-        return Asked::Open(x, y, z);
+        return Asked::Open(first, second, third);
     }
     if kind == 5 {
         return Asked::Perform(Call::Drain);
     }
-    match x {
-        0 => sourced(kind, Source::A, y, z),
-        1 => sourced(kind, Source::B, y, z),
+    match first {
+        0 => sourced(kind, Source::A, second, third, fourth),
+        1 => sourced(kind, Source::B, second, third, fourth),
         _ => Asked::Nothing,
     }
 }
 
 fn counts_of(words: &[u32]) -> [u32; 32]
-    requires { ⌜ 51 ≤ length (now words) ⌝ }
+    requires { ⌜ caseHead ≤ length (now words) ⌝ }
 {
     let mut counts = [0; 32];
     let mut i = 0;
@@ -91,7 +99,7 @@ fn counts_of(words: &[u32]) -> [u32; 32]
 }
 
 fn session_of(words: &[u32]) -> Session
-    requires { ⌜ 51 ≤ length (now words) ⌝ }
+    requires { ⌜ caseHead ≤ length (now words) ⌝ }
 {
     let a = Feed {
         rows: words[ROWS],
@@ -152,7 +160,7 @@ fn answer_call(
     text: &mut [u8; TEXT],
     used: usize,
 ) -> usize
-    requires { ⌜ 51 ≤ length (now words) ⌝ }
+    requires { ⌜ caseHead ≤ length (now words) ⌝ }
 {
     if 1 < words[CLOSED] {
         return put_bad(text, used);
@@ -160,7 +168,7 @@ fn answer_call(
     if 1 < words[CLOSED + 1] {
         return put_bad(text, used);
     }
-    match asked_of(words[0], words[1], words[2], words[3]) {
+    match asked_of(words[0], words[1], words[2], words[3], words[4]) {
         Asked::Open(parts, slots, limit) => {
             let reply = open(parts, slots, limit, a, b, probe);
             put_reply(text, used, reply, a, b, probe, out)
@@ -195,7 +203,7 @@ fn answer_sheets(
     text: &mut [u8; TEXT],
     used: usize,
 ) -> usize
-    requires { ⌜ 51 ≤ length (now words) ⌝ }
+    requires { ⌜ caseHead ≤ length (now words) ⌝ }
 {
     let a_end = SHEETS + a.len();
     let b_end = a_end + b.len();

@@ -1,8 +1,8 @@
--- The rows that the sheets hold are the accepted ones, in their order: an arrival adds its own at the end, and no call changes another.
+-- The rows that the sheets hold are those of the accepted messages, in their order: an arrival adds its own at the end, and no call changes another.
 -- By what each change leaves. Assumes nothing.
 use mathlib.Core.Path.{_≡_, refl, sym, ap, ap₂, _∙_}
 use mathlib.Core.Bool.{Bool, true, false, cond}
-use mathlib.Core.List.{List, [], _∷_, _++_, append-nil, append-assoc}
+use mathlib.Core.List.{List, [], _∷_, _++_, map, append-nil, append-assoc, map-append}
 use Prim.Native.Nat.{ℕ, suc, _≤_}
 use native.Mathlib.Omega.{arith}
 use lib.ListN.{length}
@@ -10,6 +10,7 @@ use borrow.Author.Tests.{lt-ltb, eq-eqb, ne-eqb}
 use Rattle.stamps.specs.declared.Source.{Source}
 use Rattle.stamps.specs.declared.Source.the-variants.{A, B}
 use Rattle.stamps.specs.declared.Item.{Item}
+use Rattle.stamps.specs.declared.Message.{Message}
 use Rattle.stamps.specs.Counting.{values}
 use Rattle.stamps.specs.Counting.Laws.{values-cong}
 use Rattle.stamps.specs.Keys.{itemOf}
@@ -61,9 +62,9 @@ store-items s item w h = let n = store-seen s item w h in
     (ap sideItems (n .facing) ∙ sym (append-nil (itemsOf w (other s))) ∙ ap (λ (v : Bool). itemsOf w (other s) ++ cond v (item ∷ []) []) (sym (same-facing s)))
 
 module _ (w : World) (l : List Told) (o : List ℕ) (g : Sits w l) (u : Source) where
-  -- the items after a call
-  abbrev Adds : World → List Item → Type 0
-  Adds w′ new = itemsOf w′ u ≡ itemsOf w u ++ new
+  -- the items after a call that took these messages
+  abbrev Adds : World → List Message → Type 0
+  Adds w′ new = itemsOf w′ u ≡ itemsOf w u ++ map itemOf new
 
   unchanged : (w′ : World) → itemsOf w′ u ≡ itemsOf w u → Adds w′ []
   unchanged w′ e = e ∙ sym (append-nil (itemsOf w u))
@@ -90,7 +91,11 @@ module _ (w : World) (l : List Told) (o : List ℕ) (g : Sits w l) (u : Source) 
 
   effect-items : (c : Call) → verdict (checks w c (roomIn c (length o))) ≡ Good → Adds (effect w o c .world) (offered u c)
   unfolding effect arrives joins evicts drains move lists pass
-  effect-items (Arrive s m) h = store-items s (itemOf m) (makeRoom (roomFor w) w) (row-space w l o g s m h) u ∙ ap (λ (k : List Item). k ++ cond (same s u) (itemOf m ∷ []) []) (room-items (roomFor w))
+  effect-items (Arrive s m) h = store-items s (itemOf m) (makeRoom (roomFor w) w) (row-space w l o g s m h) u ∙ ap₂ (λ (k j : List Item). k ++ j) (room-items (roomFor w)) (own (same s u))
+    where
+      own : (v : Bool) → cond v (itemOf m ∷ []) [] ≡ map itemOf (cond v (m ∷ []) [])
+      own true = refl
+      own false = refl
   effect-items (Evict s q) h = unchanged (flush s q w) (flush-items s q w (rows-fit w (g .fit) s) u)
   effect-items (Run s q) h = run-items s q
   effect-items (Close s) h = shut-items s
@@ -102,11 +107,16 @@ module _ (w : World) (l : List Told) (o : List ℕ) (g : Sits w l) (u : Source) 
   call-items c = go (verdict (checks w c (roomIn c (length o)))) refl
     where
       go : (v : Verdict) → verdict (checks w c (roomIn c (length o))) ≡ v → Adds (settle v w o (effect w o c) .world) (cond (refused (settle v w o (effect w o c) .answer)) [] (offered u c))
-      go Good e = effect-items c e ∙ ap (λ (v : Bool). itemsOf w u ++ cond v [] (offered u c)) (sym (accepts w o c))
+      go Good e = effect-items c e ∙ ap (λ (v : Bool). itemsOf w u ++ map itemOf (cond v [] (offered u c))) (sym (accepts w o c))
       go (No y) e = unchanged w refl
 
-pub run-accepts : (w : World) (l : List Told) (cs : List Lent) → Sits w l → (s : Source) → itemsOf (run w l cs .world) s ≡ itemsOf w s ++ accepted s w cs
+pub run-accepts : (w : World) (l : List Told) (cs : List Lent) → Sits w l → (s : Source) → itemsOf (run w l cs .world) s ≡ itemsOf w s ++ map itemOf (accepted s w cs)
 run-accepts w l [] g s = sym (append-nil (itemsOf w s))
-run-accepts w l (c ∷ cs) g s = run-accepts _ _ cs (sits-call w l (c .out) g (c .call)) s
-    ∙ ap (λ (k : List Item). k ++ accepted s (afterCall w (c .out) (c .call) .world) cs) (call-items w l (c .out) g s (c .call))
-    ∙ append-assoc (itemsOf w s) _ (accepted s (afterCall w (c .out) (c .call) .world) cs)
+run-accepts w l (c ∷ cs) g s =
+    let r = afterCall w (c .out) (c .call) in
+    let new = cond (refused (r .answer)) [] (offered s (c .call)) in
+    let rest = accepted s (r .world) cs in
+    run-accepts _ _ cs (sits-call w l (c .out) g (c .call)) s
+    ∙ ap (λ (k : List Item). k ++ map itemOf rest) (call-items w l (c .out) g s (c .call))
+    ∙ append-assoc (itemsOf w s) (map itemOf new) (map itemOf rest)
+    ∙ ap (λ (k : List Item). itemsOf w s ++ k) (sym (map-append itemOf new rest))

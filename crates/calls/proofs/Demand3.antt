@@ -2,7 +2,7 @@
 -- Assumes nothing.
 use mathlib.Core.Path.{_≡_, refl, sym, ap, _∙_, subst}
 use mathlib.Core.Bool.{Bool, true, false, cond, not, _&&_, _||_, or-true}
-use mathlib.Core.List.{List, [], _∷_, _++_}
+use mathlib.Core.List.{List, [], _∷_, _++_, map}
 use Prim.Native.Nat.{ℕ, _+_, _*_, _-_, _≤_, _<_}
 use native.Mathlib.Omega.{arith}
 use lib.Dec.{ltb}
@@ -13,7 +13,7 @@ use Rattle.stamps.specs.declared.Source.the-variants.{A, B}
 use Rattle.stamps.specs.declared.Item.{Item}
 use Rattle.stamps.specs.Counting.{bit}
 use Rattle.stamps.specs.Counting.Laws.{both, half-le}
-use Rattle.stamps.specs.Keys.{itemsMatch}
+use Rattle.stamps.specs.Keys.{itemOf, itemsMatch}
 use Rattle.stamps.specs.Stamps.{inMemory}
 use Rattle.stamps.specs.Stamps.Laws.{done-memory}
 use Rattle.sheets.specs.Joins.{inside, done, numbers, isPair, times}
@@ -23,7 +23,7 @@ use Rattle.sheets.proofs.Rises.{missing-owed, drain-parts, owed-after, position
 use Rattle.calls.specs.Answers.{codeOf}
 use Rattle.calls.specs.Calls.{After, owed, drains, effect, settle, afterCall, opens}
 use Rattle.calls.specs.Rounds.{Handed, sayingAt, Lent}
-use Rattle.calls.specs.Demand3.{wrote, opened, accepted, pairOf, owes, left, Demand3, now, written}
+use Rattle.calls.specs.Demand3.{wrote, opened, accepted, itemsOf, pairOf, owes, left, Demand3, now, written}
 use Rattle.calls.specs.Refusals.{Check, verdict, tryChecks, sessionFits, bothClosed, idle, roomIn, checks}
 use Rattle.calls.specs.Work.{world}
 use Rattle.calls.specs.World.{World, countOf, rowsOf, seenFrom, move}
@@ -35,6 +35,7 @@ use Rattle.calls.specs.declared.refusals.Verdict.{Verdict}
 use Rattle.calls.specs.declared.refusals.Verdict.the-variants.{Good, No}
 use Rattle.calls.proofs.Accepted.{run-accepts}
 use Rattle.calls.proofs.Fitting.{Fit, fits-hold, fit-move}
+use Rattle.calls.proofs.Laps.{of-one-lap}
 use Rattle.calls.proofs.Laws.{refused-by}
 use Rattle.calls.proofs.Moments.{sits-opened, no-items, sits-run}
 use Rattle.calls.proofs.Rounds.{said-last, Gives, gives-first, handed, rounds, Shut, shut-good}
@@ -161,9 +162,13 @@ module _ (p m n : ℕ) (a b probe : List ℕ) (e : opens p m n (length a) (lengt
   sits : Sits w l
   sits = sits-run start [] calls (sits-opened p m n a b probe e)
 
+  rows-now : (s : Source) → itemsOf w s ≡ map itemOf (accepted s start calls)
+  rows-now s = run-accepts start [] calls (sits-opened p m n a b probe e) s ∙ ap (λ (k : List Item). k ++ map itemOf (accepted s start calls)) (no-items p m n a b probe e s)
+
   pub demand-3 : Demand3 start calls
   demand-3 = record {
-    rows = λ s. run-accepts start [] calls (sits-opened p m n a b probe e) s ∙ ap (λ (k : List Item). k ++ accepted s start calls) (no-items p m n a b probe e s);
+    rows = rows-now;
+    laps = of-one-lap start w calls rows-now;
     once = λ x. rw (sits .sound .tells x) (half-le (isPair (seenFrom A w) x) _);
     prompt = prompt-now w l sits;
     drain = λ c o h. drained w o l sits c h;

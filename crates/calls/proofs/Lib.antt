@@ -4,6 +4,7 @@ mod Arrivals
 mod Checks
 pub mod Demand3
 mod Fitting
+mod Laps
 pub mod Laws
 pub mod Lone
 mod Moments

@@ -2,12 +2,14 @@
 -- proofs/Demand3.antt proves all of them for every run of calls.
 use mathlib.Core.Path.{_≡_}
 use mathlib.Core.Bool.{true, cond}
-use mathlib.Core.List.{List, [], _∷_, _++_}
+use mathlib.Core.List.{List, [], _∷_, _++_, map}
+use mathlib.Core.Logic.{_↔_}
 use Prim.Native.Nat.{ℕ, _+_, _≤_, _<_}
-use lib.ListN.{length}
+use lib.ListN.{length, getD}
 use Rattle.stamps.specs.declared.Source.{Source}
 use Rattle.stamps.specs.declared.Source.the-variants.{A, B}
 use Rattle.stamps.specs.declared.Item.{Item}
+use Rattle.stamps.specs.declared.Message.{Message}
 use Rattle.stamps.specs.Counting.{bit, values}
 use Rattle.stamps.specs.Keys.{itemOf, itemsMatch}
 use Rattle.stamps.specs.Stamps.{inMemory}
@@ -47,9 +49,9 @@ opened p m n a b probe = record { session = opens p m n (length a) (length b) (l
 
 -- ---- the rows that were accepted
 
--- the row that a call offers to a source, if it does
-abbrev pub offered : Source → Call → List Item
-offered s (Arrive v m) = cond (same v s) (itemOf m ∷ []) []
+-- the message that a call offers to a source, if it does
+abbrev pub offered : Source → Call → List Message
+offered s (Arrive v m) = cond (same v s) (m ∷ []) []
 offered s (Evict v q) = []
 offered s (Run v q) = []
 offered s (Close v) = []
@@ -57,7 +59,7 @@ offered s Drain = []
 offered s (Lone v) = []
 
 -- those of a run that were not refused, in their order
-abbrev pub accepted : Source → World → List Lent → List Item
+abbrev pub accepted : Source → World → List Lent → List Message
 accepted s w [] = []
 accepted s w (c ∷ cs) = let r = afterCall w (c .out) (c .call) in cond (refused (r .answer)) [] (offered s (c .call)) ++ accepted s (r .world) cs
 
@@ -91,8 +93,11 @@ module _ (start : World) (calls : List Lent) where
   written = run start [] calls .written
 
   pub record Demand3 : Type 0 where
-    -- row i of a source is the i-th that was accepted from it
-    pub rows : (s : Source) → itemsOf now s ≡ accepted s start calls
+    -- row i of a source is of the i-th message that was accepted from it
+    pub rows : (s : Source) → itemsOf now s ≡ map itemOf (accepted s start calls)
+    -- and two rows match exactly if their messages are one: of one heat, one car and one lap
+    pub laps : (i j : ℕ) (d : Message) → i < countOf now A → j < countOf now B
+        → (itemsMatch (rowsOf now A i .item) (rowsOf now B j .item) ≡ true) ↔ (getD (accepted A start calls) i d ≡ getD (accepted B start calls) j d)
     -- a. "no pair is ever written twice, none whose keys differ": at most once if it is a pair of accepted rows that match, with their key, and else never
     pub once : (x : Told) → times x written ≤ owes now x
     -- b. "two matching rows in memory together are out once the later one is accepted"

@@ -1,4 +1,4 @@
--- Document 01's worked session, computed from the definitions: answers, pairs, stamps, and the one entry.
+-- Document 01's worked session in heat 1, computed from the definitions: answers, pairs, stamps, and the one entry.
 -- Proved by computing it. Assumes nothing.
 use mathlib.Core.Path.{_≡_, refl}
 use mathlib.Core.Bool.{false}
@@ -7,8 +7,7 @@ use Prim.Native.Nat.{ℕ, _+_, _*_}
 use lib.ListN.{replicate}
 use Rattle.stamps.specs.declared.Source.the-variants.{A, B}
 use Rattle.stamps.specs.declared.Message.{Message}
-use Rattle.stamps.specs.declared.Row.{Row}
-use Rattle.stamps.specs.Keys.{keyOf, inRange, itemOf, itemsMatch, partOf}
+use Rattle.stamps.specs.Keys.{inRange, itemOf, itemsMatch, partOf}
 use Rattle.stamps.specs.Stamps.{alive, presentAt, together, covers, used, doneBefore}
 use Rattle.sheets.specs.Layout.{Told, rowAt, putRow, entryAt, putEntry, pairAt, putPair}
 use Rattle.sheets.specs.Lists.{entries, listOf, probedAt}
@@ -37,29 +36,33 @@ play r p = record { world = r .world; answers = p .answers ++ (r .answer ∷ [])
 unfoldable pub ask : ℕ → Call → Played → Played
 ask n c p = play (afterCall (p .world) (replicate (3 * n) 0) c) p
 
--- car 7 on a lap
+-- car 7 on a lap of heat 1
 abbrev pub passing : ℕ → Message
-passing lap = record { car = 7; lap = lap }
+passing lap = record { heat = 1; car = 7; lap = lap }
+
+-- its key
+abbrev pub key : ℕ → ℕ
+key lap = 1007000 + lap
 
 -- START,2,3,8 on sheets of zeros
 unfoldable pub started : Played
 started = record { world = record { session = fresh 2 3 8; a = replicate 24 0; b = replicate 24 0; probe = replicate 256 0 }; answers = []; pairs = [] }
 
--- a pair of these rows, and a row with these stamps: all are of car 7
+-- a pair of these rows
 abbrev pub told : ℕ → ℕ → ℕ → Told
-told a b lap = record { a = a; b = b; key = 7000 + lap }
+told a b lap = record { a = a; b = b; key = key lap }
 
--- a row of car 7
-abbrev pub row : ℕ → ℕ → ℕ → Row
-row lap ats dts = record { item = record { key = 7000 + lap }; ats = ats; dts = dts }
+-- the words of a row with these stamps
+abbrev pub row : ℕ → ℕ → ℕ → List ℕ
+row lap ats dts = key lap ∷ ats ∷ dts ∷ []
 
--- A,7,12 / B,7,12 / A,7,13 / B,7,13 / B,7,12: the first call stands innermost
+-- A,1,7,12 / B,1,7,12 / A,1,7,13 / B,1,7,13 / B,1,7,12: the first call stands innermost
 unfoldable pub fed : Played
 fed =
     ask 4 (Arrive B (passing 12))
     (ask 4 (Arrive B (passing 13)) (ask 4 (Arrive A (passing 13)) (ask 4 (Arrive B (passing 12)) (ask 4 (Arrive A (passing 12)) started))))
 
--- the rest: RUN,A,0 twice, EVICT,B,0, A,7,12; and CLOSE,A, CLOSE,B, DRAIN,1 twice
+-- RUN,A,0 / RUN,A,0 / EVICT,B,0 / A,1,7,12
 unfoldable pub run : Played → Played
 run p = ask 4 (Arrive A (passing 12)) (ask 4 (Evict B 0) (ask 4 (Run A 0) (ask 4 (Run A 0) p)))
 
@@ -93,31 +96,31 @@ stage clock a b counts entry rowsA answers pairs = record {
 -- after the five rows
 abbrev pub fedStage : Played
 fedStage =
-    stage 7 (7012 ∷ 1 ∷ 4 ∷ 7013 ∷ 3 ∷ 6 ∷ 0 ∷ 0 ∷ 0 ∷ []) (7012 ∷ 2 ∷ 0 ∷ 7013 ∷ 5 ∷ 0 ∷ 7012 ∷ 7 ∷ 0 ∷ []) (replicate 32 0) (0 ∷ 0 ∷ []) 2
+    stage 7 (row 12 1 4 ++ row 13 3 6 ++ replicate 3 0) (row 12 2 0 ++ row 13 5 0 ++ row 12 7 0) (replicate 32 0) (0 ∷ 0 ∷ []) 2
     (Taken 0 ∷ Taken 1 ∷ Taken 0 ∷ Taken 1 ∷ Taken 0 ∷ []) (told 0 0 12 ∷ told 1 1 13 ∷ [])
 
 -- after the run, the flush and the sixth row
 abbrev pub runStage : Played
 runStage =
-    stage 10 (7012 ∷ 1 ∷ 4 ∷ 7013 ∷ 3 ∷ 6 ∷ 7012 ∷ 10 ∷ 0 ∷ []) (7012 ∷ 2 ∷ 8 ∷ 7013 ∷ 5 ∷ 0 ∷ 7012 ∷ 7 ∷ 9 ∷ []) (1 ∷ replicate 31 0) (4 ∷ 7 ∷ []) 3
+    stage 10 (row 12 1 4 ++ row 13 3 6 ++ row 12 10 0) (row 12 2 8 ++ row 13 5 0 ++ row 12 7 9) (1 ∷ replicate 31 0) (4 ∷ 7 ∷ []) 3
     (Taken 0 ∷ Taken 1 ∷ Taken 0 ∷ Taken 1 ∷ Taken 0 ∷ Ran 1 ∷ Ran 0 ∷ Flushed 2 ∷ Taken 0 ∷ []) (told 0 0 12 ∷ told 1 1 13 ∷ told 0 2 12 ∷ [])
 
 fed-is : fed ≡ fedStage
-unfolding fed started keyOf inRange itemOf itemsMatch partOf alive presentAt together covers used doneBefore rowAt putRow entryAt putEntry pairAt putPair entries listOf probedAt lay victim arrivalPairs wanted wantedPairs pairsFrom flush store note shut move verdict sessionFits roomFor checks joins arrives evicts runs drains effect afterCall ask play
+unfolding fed started inRange itemOf itemsMatch partOf alive presentAt together covers used doneBefore rowAt putRow entryAt putEntry pairAt putPair entries listOf probedAt lay victim arrivalPairs wanted wantedPairs pairsFrom flush store note shut move verdict sessionFits roomFor checks joins arrives evicts runs drains effect afterCall ask play
 fed-is = refl
 
 run-is : run fedStage ≡ runStage
-unfolding run keyOf inRange itemOf itemsMatch partOf alive presentAt together covers used doneBefore rowAt putRow entryAt putEntry pairAt putPair entries listOf probedAt lay victim arrivalPairs wanted wantedPairs pairsFrom flush store note shut move verdict sessionFits roomFor checks joins arrives evicts runs drains effect afterCall ask play
+unfolding run inRange itemOf itemsMatch partOf alive presentAt together covers used doneBefore rowAt putRow entryAt putEntry pairAt putPair entries listOf probedAt lay victim arrivalPairs wanted wantedPairs pairsFrom flush store note shut move verdict sessionFits roomFor checks joins arrives evicts runs drains effect afterCall ask play
 run-is = refl
 
 drained-answers : drained runStage .answers ≡ runStage .answers ++ (Shut ∷ Shut ∷ More 1 ∷ Done 1 ∷ [])
-unfolding drained keyOf inRange itemOf itemsMatch partOf alive presentAt together covers used doneBefore rowAt putRow entryAt putEntry pairAt putPair entries listOf probedAt lay victim arrivalPairs wanted wantedPairs pairsFrom flush store note shut move verdict sessionFits roomFor checks joins arrives evicts runs drains effect afterCall ask play
+unfolding drained inRange itemOf itemsMatch partOf alive presentAt together covers used doneBefore rowAt putRow entryAt putEntry pairAt putPair entries listOf probedAt lay victim arrivalPairs wanted wantedPairs pairsFrom flush store note shut move verdict sessionFits roomFor checks joins arrives evicts runs drains effect afterCall ask play
 drained-answers = refl
 
 drained-pairs : drained runStage .pairs ≡ runStage .pairs ++ (told 2 0 12 ∷ told 2 2 12 ∷ [])
-unfolding drained keyOf inRange itemOf itemsMatch partOf alive presentAt together covers used doneBefore rowAt putRow entryAt putEntry pairAt putPair entries listOf probedAt lay victim arrivalPairs wanted wantedPairs pairsFrom flush store note shut move verdict sessionFits roomFor checks joins arrives evicts runs drains effect afterCall ask play
+unfolding drained inRange itemOf itemsMatch partOf alive presentAt together covers used doneBefore rowAt putRow entryAt putEntry pairAt putPair entries listOf probedAt lay victim arrivalPairs wanted wantedPairs pairsFrom flush store note shut move verdict sessionFits roomFor checks joins arrives evicts runs drains effect afterCall ask play
 drained-pairs = refl
 
 drained-sheets : (drained runStage .world .a ≡ runStage .world .a) × (drained runStage .world .b ≡ runStage .world .b) × (drained runStage .world .probe ≡ runStage .world .probe)
-unfolding drained keyOf inRange itemOf itemsMatch partOf alive presentAt together covers used doneBefore rowAt putRow entryAt putEntry pairAt putPair entries listOf probedAt lay victim arrivalPairs wanted wantedPairs pairsFrom flush store note shut move verdict sessionFits roomFor checks joins arrives evicts runs drains effect afterCall ask play
+unfolding drained inRange itemOf itemsMatch partOf alive presentAt together covers used doneBefore rowAt putRow entryAt putEntry pairAt putPair entries listOf probedAt lay victim arrivalPairs wanted wantedPairs pairsFrom flush store note shut move verdict sessionFits roomFor checks joins arrives evicts runs drains effect afterCall ask play
 drained-sheets = (refl, refl, refl)

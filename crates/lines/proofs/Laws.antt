@@ -20,6 +20,8 @@ use Rattle.lines.specs.declared.numbers.Number.{Number}
 use Rattle.lines.specs.declared.numbers.Number.the-variants as number
 use Rattle.lines.specs.declared.reading.Line.{Line}
 use Rattle.lines.specs.declared.reading.Line.the-variants as line
+use Rattle.lines.specs.declared.reading.Three.{Three}
+use Rattle.lines.specs.declared.reading.Three.the-variants as three
 use Rattle.lines.specs.declared.reading.Sourced.{Sourced}
 use Rattle.lines.specs.declared.reading.Sourced.the-variants as sourced
 use Rattle.lines.specs.declared.serving.Served.{Served}
@@ -32,7 +34,7 @@ use Rattle.lines.specs.Fields.{fields, fieldAt}
 use Rattle.lines.specs.Gathering.{isLF, Cut, only, before, cut, linesFrom, lineMost, keptLen, keptLine, Held, held, gather, Took}
 use Rattle.lines.specs.Numbers.{isDigit, digitsFrom}
 use Rattle.lines.specs.Printing.{Put, digitsUp, numberMost, decimal}
-use Rattle.lines.specs.Reading.{numberAt, sideAt, start, arrive, sourcedOf, evict, run, close, roomMost, roomed, drain, lone, startLine, arriveLine, closeLine, drainLine, lineOf, readLine}
+use Rattle.lines.specs.Reading.{numberAt, sideAt, threeOf, start, arrive, sourcedOf, evict, run, close, roomMost, roomed, drain, lone, closeLine, drainLine, lineOf, readLine}
 use Rattle.lines.specs.Serving.{Serves}
 use Rattle.lines.specs.Words.{wordOf}
 
@@ -207,16 +209,13 @@ RoomFits (line.Drain room) = room ≤ roomMost
 RoomFits (line.Lone s room) = room ≤ roomMost
 RoomFits line.Bad = Unit
 
-start-fits : (p m n : Number) → RoomFits (start p m n)
-start-fits (number.Value p) (number.Value m) (number.Value n) = tt
-start-fits (number.Value p) (number.Value m) number.Bad = tt
-start-fits (number.Value p) number.Bad n = tt
-start-fits number.Bad m n = tt
+start-fits : (x : Three) → RoomFits (start x)
+start-fits (three.Of p m n) = tt
+start-fits three.Bad = tt
 
-arrive-fits : (s : Source) (car lap : Number) → RoomFits (arrive s car lap)
-arrive-fits s (number.Value car) (number.Value lap) = omega arith
-arrive-fits s (number.Value car) number.Bad = tt
-arrive-fits s number.Bad lap = tt
+arrive-fits : (s : Source) (x : Three) → RoomFits (arrive s x)
+arrive-fits s (three.Of heat car lap) = omega arith
+arrive-fits s three.Bad = tt
 
 evict-fits : (p : Sourced) → RoomFits (evict p)
 evict-fits (sourced.Of s p) = omega arith
@@ -251,9 +250,9 @@ fits-if true x h = h
 fits-if false x h = tt
 
 line-fits : (w : Word) (fs : List (List ℕ)) → RoomFits (lineOf w fs)
-unfolding startLine arriveLine closeLine drainLine
-line-fits word.Start fs = fits-if (eqb (length fs) 4) _ (start-fits (numberAt fs 1) (numberAt fs 2) (numberAt fs 3))
-line-fits (word.Arrive s) fs = fits-if (eqb (length fs) 3) _ (arrive-fits s (numberAt fs 1) (numberAt fs 2))
+unfolding closeLine drainLine
+line-fits word.Start fs = start-fits (threeOf fs)
+line-fits (word.Arrive s) fs = arrive-fits s (threeOf fs)
 line-fits word.Evict fs = evict-fits (sourcedOf fs)
 line-fits word.Run fs = run-fits (sourcedOf fs)
 line-fits word.Close fs = fits-if (eqb (length fs) 2) _ (close-fits (sideAt fs 1))

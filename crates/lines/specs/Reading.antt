@@ -14,6 +14,8 @@ use Rattle.lines.specs.declared.words.Word.{Word}
 use Rattle.lines.specs.declared.words.Word.the-variants as word
 use Rattle.lines.specs.declared.reading.Line.{Line}
 use Rattle.lines.specs.declared.reading.Line.the-variants as line
+use Rattle.lines.specs.declared.reading.Three.{Three}
+use Rattle.lines.specs.declared.reading.Three.the-variants as three
 use Rattle.lines.specs.declared.reading.Sourced.{Sourced}
 use Rattle.lines.specs.declared.reading.Sourced.the-variants as sourced
 use Rattle.lines.specs.Fields.{fields, fieldAt}
@@ -36,26 +38,34 @@ ofCount n fs says = cond (eqb (length fs) n) says line.Bad
 
 -- ---- the lines, one for each word
 
--- P, M and N, where all three are numbers
-abbrev pub start : Number → Number → Number → Line
-start (number.Value p) (number.Value m) (number.Value n) = line.Start p m n
-start (number.Value p) (number.Value m) number.Bad = line.Bad
-start (number.Value p) number.Bad n = line.Bad
-start number.Bad m n = line.Bad
+-- three fields, where all are numbers
+abbrev pub triple : Number → Number → Number → Three
+triple (number.Value x) (number.Value y) (number.Value z) = three.Of x y z
+triple (number.Value x) (number.Value y) number.Bad = three.Bad
+triple (number.Value x) number.Bad z = three.Bad
+triple number.Bad y z = three.Bad
+
+-- "P,M,N" or "heat,car,lap" after a word
+unfoldable pub threeOf : List (List ℕ) → Three
+threeOf fs = cond (eqb (length fs) 4) (triple (numberAt fs 1) (numberAt fs 2) (numberAt fs 3)) three.Bad
+
+-- an opening
+abbrev pub start : Three → Line
+start (three.Of p m n) = line.Start p m n
+start three.Bad = line.Bad
 
 -- "START,P,M,N"
-unfoldable pub startLine : List (List ℕ) → Line
-startLine fs = ofCount 4 fs (start (numberAt fs 1) (numberAt fs 2) (numberAt fs 3))
+abbrev pub startLine : List (List ℕ) → Line
+startLine fs = start (threeOf fs)
 
--- a message of source s, where both are numbers
-abbrev pub arrive : Source → Number → Number → Line
-arrive s (number.Value car) (number.Value lap) = line.Ask (call.Arrive s (record { car = car; lap = lap }))
-arrive s (number.Value car) number.Bad = line.Bad
-arrive s number.Bad lap = line.Bad
+-- a message of source s
+abbrev pub arrive : Source → Three → Line
+arrive s (three.Of heat car lap) = line.Ask (call.Arrive s (record { heat = heat; car = car; lap = lap }))
+arrive s three.Bad = line.Bad
 
--- "A,car,lap; B,car,lap"
-unfoldable pub arriveLine : Source → List (List ℕ) → Line
-arriveLine s fs = ofCount 3 fs (arrive s (numberAt fs 1) (numberAt fs 2))
+-- "A,heat,car,lap", and so for B
+abbrev pub arriveLine : Source → List (List ℕ) → Line
+arriveLine s fs = arrive s (threeOf fs)
 
 -- a source and a number, where both are what they should be
 abbrev pub pick : Side → Number → Sourced

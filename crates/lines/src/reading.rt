@@ -12,7 +12,7 @@ use stamps::Message;
 use stamps::Source;
 ghost use mathlib.Core.Path.{_≡_};
 ghost use Rattle.lines.specs.Fields.{fields};
-ghost use Rattle.lines.specs.Reading.{numberAt, sideAt, startLine, arriveLine, sourcedOf, evictLine, runLine, closeLine, drainLine, loneLine, readLine};
+ghost use Rattle.lines.specs.Reading.{numberAt, sideAt, threeOf, startLine, arriveLine, sourcedOf, evictLine, runLine, closeLine, drainLine, loneLine, readLine};
 
 const LONGEST: usize = 80;
 
@@ -26,6 +26,12 @@ pub enum Line {
     Ask(Call),
     Drain(u32),
     Lone(Source, u32),
+    Bad,
+}
+
+// The three numbers after a word: P, M and N, or a heat, a car and a lap.
+enum Three {
+    Of(u32, u32, u32),
     Bad,
 }
 
@@ -47,19 +53,28 @@ fn side_at(line: &[u8], k: usize) -> Side
     read_side(field(line, k))
 }
 
+fn read_three(line: &[u8]) -> Three
+    ensures { λ r. ⌜ r ≡ threeOf (fields (now (line .entry))) ⌝ }
+{
+    if count(line) != 4 {
+        return Three::Bad;
+    }
+    let Number::Value(first) = number_at(line, 1) else {
+        return Three::Bad;
+    };
+    let Number::Value(second) = number_at(line, 2) else {
+        return Three::Bad;
+    };
+    let Number::Value(third) = number_at(line, 3) else {
+        return Three::Bad;
+    };
+    Three::Of(first, second, third)
+}
+
 fn start_line(line: &[u8]) -> Line
     ensures { λ r. ⌜ r ≡ startLine (fields (now (line .entry))) ⌝ }
 {
-    if count(line) != 4 {
-        return Line::Bad;
-    }
-    let Number::Value(parts) = number_at(line, 1) else {
-        return Line::Bad;
-    };
-    let Number::Value(slots) = number_at(line, 2) else {
-        return Line::Bad;
-    };
-    let Number::Value(limit) = number_at(line, 3) else {
+    let Three::Of(parts, slots, limit) = read_three(line) else {
         return Line::Bad;
     };
     Line::Start(parts, slots, limit)
@@ -68,16 +83,10 @@ fn start_line(line: &[u8]) -> Line
 fn arrive_line(source: Source, line: &[u8]) -> Line
     ensures { λ r. ⌜ r ≡ arriveLine source (fields (now (line .entry))) ⌝ }
 {
-    if count(line) != 3 {
-        return Line::Bad;
-    }
-    let Number::Value(car) = number_at(line, 1) else {
+    let Three::Of(heat, car, lap) = read_three(line) else {
         return Line::Bad;
     };
-    let Number::Value(lap) = number_at(line, 2) else {
-        return Line::Bad;
-    };
-    Line::Ask(Call::Arrive(source, Message { car, lap }))
+    Line::Ask(Call::Arrive(source, Message { heat, car, lap }))
 }
 
 fn read_sourced(line: &[u8]) -> Sourced

@@ -17,11 +17,11 @@ use Rattle.stamps.specs.Stamps.Meaning.{alive-is, presentAt-is, together
 abbrev pub row : ℕ → ℕ → Row
 row ats dts = record { item = record { key = 0 }; ats = ats; dts = dts }
 
--- a message of this car on this lap
-abbrev pub message : ℕ → ℕ → Message
-message car lap = record { car = car; lap = lap }
+-- a message of this car on this lap of this heat
+abbrev pub message : ℕ → ℕ → ℕ → Message
+message heat car lap = record { heat = heat; car = car; lap = lap }
 
--- the twelve, in document 01's order
+-- the twelve, in document 01's order, those of keys worked with a heat
 unfoldable pub sums : List Bool
 sums =
     together (row 1 4) (row 2 0)
@@ -34,8 +34,8 @@ sums =
     ∷ not (presentAt 9 (row 7 9))
     ∷ presentAt 550 (row 500 600)
     ∷ not (presentAt 700 (row 500 600))
-    ∷ eqb (itemOf (message 1 0) .key) 1000
-    ∷ (eqb (itemOf (message 999 999) .key) 999999 && eqb (partOf 16 (itemOf (message 999 999))) 15)
+    ∷ eqb (itemOf (message 1 1 0) .key) 1001000
+    ∷ (eqb (itemOf (message 9 999 999) .key) 9999999 && eqb (partOf 16 (itemOf (message 9 999 999))) 15)
     ∷ []
 
 -- every one of them is true

@@ -1,7 +1,7 @@
 // Stamps and keys: numbers only. What a feed sends, what is kept of it, and when two rows have met before.
 ghost use mathlib.Core.Path.{_≡_};
 ghost use Prim.Native.Nat.{_<_};
-ghost use Rattle.stamps.specs.Keys.{made, itemsMatch, partOf};
+ghost use Rattle.stamps.specs.Keys.{inRange, made, itemsMatch, partOf};
 ghost use Rattle.stamps.specs.Sources.{other};
 ghost use Rattle.stamps.specs.Stamps.{alive, presentAt, together, covers};
 
@@ -22,6 +22,7 @@ pub fn other_source(source: Source) -> Source
 
 // What a feed sends.
 pub struct Message {
+    pub heat: u32,
     pub car: u32,
     pub lap: u32,
 }
@@ -49,23 +50,25 @@ pub enum Made {
     BadKey,
 }
 
+fn in_range(message: Message) -> bool
+    ensures { λ r. ⌜ r ≡ inRange message ⌝ }
+{
+    (1 <= message.heat)
+        & (message.heat <= 9)
+        & (1 <= message.car)
+        & (message.car <= 999)
+        & (message.lap <= 999)
+}
+
 // The item of a message, if its numbers are in range.
 pub fn item_of(message: Message) -> Made
     ensures { λ r. ⌜ r ≡ made message ⌝ }
 {
-    let car = message.car;
-    let lap = message.lap;
-    if car < 1 {
-        return Made::BadKey;
-    }
-    if 999 < car {
-        return Made::BadKey;
-    }
-    if 999 < lap {
+    if !in_range(message) {
         return Made::BadKey;
     }
     Made::Good(Item {
-        key: car * 1000 + lap,
+        key: message.heat * 1000000 + message.car * 1000 + message.lap,
     })
 }
 

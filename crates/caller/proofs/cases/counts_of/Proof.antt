@@ -1,4 +1,4 @@
--- `caller::cases::counts_of` is safe and ends: the counts are the 32 words from 12 on, and there are 51.
+-- `caller::cases::counts_of` is safe and ends: the counts are 32 numbers of the case's head.
 -- Assumes nothing.
 use borrow.Author.Needs.{needs}
 use Prim.Native.Nat.{_≤_, _-_}

@@ -1,68 +1,15 @@
--- `lines::reading::start_line` meets its contract: each test and each field is one of `startLine`.
+-- `lines::reading::start_line` meets its contract: the three numbers are what `threeOf` says.
 -- Assumes nothing.
 use borrow.Author.Needs.{needs}
-use Rattle.lines.specs.Reading.{startLine}
-use Rattle.lines.proofs.Tested.{told-eq, told-ne}
 use Rattle.lines.proofs.reading.start_line.Statement.{statement}
 use Rattle.lines.proofs.reading.start_line.Tie as tie
 
 returns : tie.Need-returns
-unfolding startLine
-returns c = rw (told-ne (c .before .count .ensures) (c .if1 .taken))
+returns c = rw (← c .before .before .read-three .ensures, c .enum-told .given .1)
 
 returns-2 : tie.Need-returns-2
-unfolding startLine
-returns-2 c =
-    let at-count = c .before .before .before .before in
-    rw (told-eq (at-count .count .ensures) (c .before .before .before .if1 .left), ← c .before .before .number-at .ensures, c .enum-told .given .1)
-
-returns-3 : tie.Need-returns-3
-unfolding startLine
-returns-3 c =
-    let at-parts = c .before .before .before .before in
-    let at-number-at = at-parts .before .before in
-    let at-if1 = at-number-at .before in
-    let at-count = at-if1 .before in
-    rw (told-eq (at-count .count .ensures) (at-if1 .if1 .left), ← at-number-at .number-at .ensures, at-parts .parts .given .1, ← c .before .before .number-at2 .ensures, c .enum-told2 .given .1)
-
-returns-4 : tie.Need-returns-4
-unfolding startLine
-returns-4 c =
-    let at-slots = c .before .before .before .before in
-    let at-number-at2 = at-slots .before .before in
-    let at-parts = at-number-at2 .before .before in
-    let at-number-at = at-parts .before .before in
-    let at-if1 = at-number-at .before in
-    let at-count = at-if1 .before in
-    rw (told-eq (at-count .count .ensures) (at-if1 .if1 .left), ← at-number-at .number-at .ensures, at-parts .parts .given .1, ← at-number-at2 .number-at2 .ensures, at-slots .slots .given .1, ← c .before .before .number-at3 .ensures, c .enum-told3 .given .1)
-
-returns-5 : tie.Need-returns-5
-unfolding startLine
-returns-5 c =
-    let at-slots = c .before .before .before .before .before in
-    let at-number-at2 = at-slots .before .before in
-    let at-parts = at-number-at2 .before .before in
-    let at-number-at = at-parts .before .before in
-    let at-if1 = at-number-at .before in
-    let at-count = at-if1 .before in
-    rw (told-eq (at-count .count .ensures) (at-if1 .if1 .left), ← at-number-at .number-at .ensures, at-parts .parts .given .1, ← at-number-at2 .number-at2 .ensures, at-slots .slots .given .1, ← c .before .before .before .number-at3 .ensures, c .before .limit .given .1)
+returns-2 c = rw (← c .before .before .before .read-three .ensures, c .before .parts .given .1)
 
 pub start-line-spec : {M : Type 1} → statement M
 start-line-spec =
-    tie.close
-    (tie.spec
-    (λ c κs. search needs)
-    returns
-    (λ c κs. search needs)
-    (λ c. search needs)
-    (λ c. search needs)
-    returns-2
-    (λ c κs. search needs)
-    (λ c. search needs)
-    (λ c. search needs)
-    returns-3
-    (λ c κs. search needs)
-    (λ c. search needs)
-    (λ c. search needs)
-    returns-4
-    returns-5)
+    tie.close (tie.spec (λ c κs. search needs) (λ c. search needs) (λ c. search needs) returns returns-2)
