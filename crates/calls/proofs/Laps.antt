@@ -12,7 +12,7 @@ use Rattle.stamps.specs.declared.Source.{Source}
 use Rattle.stamps.specs.declared.Source.the-variants.{A, B}
 use Rattle.stamps.specs.declared.Item.{Item}
 use Rattle.stamps.specs.declared.Message.{Message}
-use Rattle.stamps.specs.Counting.Laws.{length-values, values-at}
+use Rattle.stamps.specs.Counting.Laws.{Each, length-values, values-at}
 use Rattle.stamps.specs.Keys.{inRange, itemOf, itemsMatch}
 use Rattle.stamps.specs.Keys.Laws.{match-same}
 use Rattle.calls.specs.Answers.{refused}
@@ -33,8 +33,7 @@ use Rattle.calls.proofs.Settling.{verdict-first, verdict-rest}
 
 -- every message of a list is in range
 abbrev Ranged : List Message → Type 0
-Ranged [] = Unit
-Ranged (m ∷ l) = (inRange m ≡ true) × Ranged l
+Ranged l = Each (map inRange l)
 
 ranged-append : (l k : List Message) → Ranged l → Ranged k → Ranged (l ++ k)
 ranged-append [] k h g = g
