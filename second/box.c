@@ -76,27 +76,48 @@ static uint32_t memory_rows_of(const session_record *record, const lent_sheets *
     return count;
 }
 
-static uint32_t memory_rows(const session_record *record, const lent_sheets *sheets)
+static uint32_t memory_rows_of_source(const session_record *record, const lent_sheets *sheets,
+                                      uint32_t source)
 {
     uint32_t count = 0;
-    for (uint32_t s = 0; s < SOURCES; s++)
-        for (uint32_t p = 0; p < record->partitions; p++)
-            count += memory_rows_of(record, sheets, (portion){ s, p });
+    for (uint32_t r = 0; r < record->rows[source]; r++)
+        if (in_memory(row_at(sheets, source, r)))
+            count++;
     return count;
 }
 
-/* Only a strictly larger portion replaces the one found before, so at a tie A
- * stays before B, and the lower partition before the higher. */
-static portion largest_portion(const session_record *record, const lent_sheets *sheets)
+static uint32_t memory_rows(const session_record *record, const lent_sheets *sheets)
 {
-    portion largest = { SOURCE_A, 0 };
-    for (uint32_t s = 0; s < SOURCES; s++)
-        for (uint32_t p = 0; p < record->partitions; p++) {
-            portion tried = { s, p };
-            if (memory_rows_of(record, sheets, tried) > memory_rows_of(record, sheets, largest))
-                largest = tried;
-        }
+    return memory_rows_of_source(record, sheets, SOURCE_A)
+         + memory_rows_of_source(record, sheets, SOURCE_B);
+}
+
+/* Only a strictly larger portion replaces the one found before, so at a tie the
+ * lower partition stays. */
+static portion largest_portion(const session_record *record, const lent_sheets *sheets,
+                               uint32_t source)
+{
+    portion largest = { source, 0 };
+    for (uint32_t p = 0; p < record->partitions; p++) {
+        portion tried = { source, p };
+        if (memory_rows_of(record, sheets, tried) > memory_rows_of(record, sheets, largest))
+            largest = tried;
+    }
     return largest;
+}
+
+static uint32_t fuller_source(const session_record *record, const lent_sheets *sheets)
+{
+    uint32_t of_a = memory_rows_of_source(record, sheets, SOURCE_A);
+    uint32_t of_b = memory_rows_of_source(record, sheets, SOURCE_B);
+    return of_b > of_a ? SOURCE_B : SOURCE_A;
+}
+
+/* "From the source with more rows in memory, A at a tie, and within it from the
+ * largest portion, lower partition at a tie." */
+static portion next_victim(const session_record *record, const lent_sheets *sheets)
+{
+    return largest_portion(record, sheets, fuller_source(record, sheets));
 }
 
 /* Answers the rows flushed. */
@@ -336,7 +357,7 @@ answer box_arrive(session_record *record, const lent_sheets *sheets,
      * nothing: so they are found first, with the victim thought away. */
     uint32_t key = key_of(named);
     bool full = memory_rows(record, sheets) >= record->memory;
-    portion victim = largest_portion(record, sheets);
+    portion victim = next_victim(record, sheets);
     uint32_t found[MOST_ROWS];
     uint32_t pairs = partners(record, sheets, other(source), key, full ? &victim : NULL, found);
     if (pairs > room(sheets))

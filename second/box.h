@@ -1,8 +1,8 @@
 /* The box: two sources, their sheets, and the calls on them.
  *
- * Everything here follows document 01 and the requests for lone rows and for
- * heats. The sheets belong to the caller and are lent for one call; the session
- * record is the caller's too. */
+ * Everything here follows document 01 and the requests for lone rows, for heats
+ * and for a fair share of the slots. The sheets belong to the caller and are lent
+ * for one call; the session record is the caller's too. */
 #ifndef BOX_H
 #define BOX_H
 

@@ -2,7 +2,7 @@
 
 import re
 
-from draws import Draws
+from draws import Draws, uneven_feeds
 from model import A, B, MOST_ENTRIES, Model, NamedLap
 
 OPEN, ARRIVE, EVICT, RUN, CLOSE, DRAIN, LONE = range(7)
@@ -169,6 +169,22 @@ def with_full_list(draws, laps):
     return model
 
 
+def with_full_memory(draws, feeds):
+    """A model whose memory is full, now and then but for one row. The source with
+    the fewer laps most often has half of the rows, or one fewer or more than the
+    other."""
+    crowded = A if len(feeds[A]) < len(feeds[B]) else B
+    memory = draws.pick([1, 2, 3, 4, 5, 5, 6, 7, 7, 8, 9])
+    half = memory // 2
+    share = draws.pick([half, half, half, memory - half, draws.between(0, memory)])
+    rows = [crowded] * share + [1 - crowded] * (memory - share)
+    del rows[memory - draws.pick([0, 0, 0, 0, 1]):]
+    model = Model(draws.pick([2, 3, 4, 5, 16]), memory, draws.pick([10, 20]))
+    for at, source in enumerate(rows, draws.below(6)):
+        model.follow(("ARRIVE", source, *feeds[source][at % len(feeds[source])]), 512)
+    return model
+
+
 def closed_for(draws, model, kind):
     """Closes the sources that the call wants closed, most often; drains and lone
     calls may have gone before."""
@@ -241,7 +257,12 @@ def built_call(draws):
     laps = draw_laps(draws)
     kind = draws.weighted({OPEN: 1, ARRIVE: 7, EVICT: 2, RUN: 10, CLOSE: 1, DRAIN: 8, LONE: 4})
     lone_share = draws.pick([0.2, 0.5, 0.8] if kind == LONE else [0, 0, 0, 0.2])
-    model = simulated(draws, laps, lone_share)
+    if kind == ARRIVE and draws.chance(0.6):
+        feeds = uneven_feeds(draws)
+        laps = feeds[A] + feeds[B]
+        model = with_full_memory(draws, feeds)
+    else:
+        model = simulated(draws, laps, lone_share)
     closed_for(draws, model, kind)
     arguments = arguments_for(draws, model, kind, laps)
     record, sheets = words_of(draws, model)
@@ -301,10 +322,10 @@ def lap_with_key(key):
 def wild_call(draws):
     """Small numbers everywhere, whether calls could have left them or not."""
     kind = draws.weighted({ARRIVE: 3, EVICT: 1, RUN: 5, CLOSE: 0.3, DRAIN: 5, LONE: 2})
-    partitions = draws.pick([1, 1, 1, 2, 3])
+    partitions = draws.pick([1, 2, 3] if kind == ARRIVE else [1, 1, 1, 2, 3])
     most_rows = draws.between(1, 7)
     keys = draws.pick([[1007012], [1007012, 2007012], [1001000, 1001001, 1002000, 0],
-                       [7012, 1007012], [0, 1, 9999999, MOST_WORD]])
+                       [7012, 1007012], [0, 1, 9999999, MOST_WORD], [1007012, 1007013, 1007014]])
     if kind == LONE and draws.chance(0.5):
         keys = [*range(1007010, 1007015), *range(2007010, 2007015)]
     stamps = draws.pick([4, 8, 14])

@@ -2,6 +2,8 @@
 
 import random
 
+from model import NamedLap
+
 
 class Draws:
     """Draws named by a text. Only random() is used: Python promises its
@@ -31,3 +33,15 @@ class Draws:
             if at < 0:
                 return choice
         return choice
+
+
+def uneven_feeds(draws):
+    """The laps of each source: one has laps that follow each other, and so fall
+    into several partitions, the other only one or two. Its portions are often
+    the larger ones, also when it has fewer rows in memory."""
+    heat, car = draws.between(1, 8), draws.pick([1, 7, 999])
+    first = draws.pick([0, 12, 13, 990])
+    spread = [NamedLap(heat, car, first + step) for step in range(draws.between(3, 6))]
+    lap = draws.pick(spread)
+    crowded = draws.pick([[lap], [lap, lap._replace(heat=heat + 1)], [lap, draws.pick(spread)]])
+    return draws.pick([[spread, crowded], [crowded, spread]])

@@ -51,13 +51,15 @@ class Model:
                 row[2] = self.clock
 
     def victim(self):
-        """The portion that an arrival would flush first, or None."""
+        """The portion that an arrival would flush first, or None: from the source
+        with more rows in memory, A at a tie, the largest one, the lower
+        partition at a tie."""
         laps = [[lap for lap, _, dts in rows if dts == 0] for rows in self.rows]
         if len(laps[A]) + len(laps[B]) < self.memory:
             return None
-        sizes = [Counter(map(self.partition_of, own)) for own in laps]
-        portions = [(source, part) for source in (A, B) for part in range(self.partitions)]
-        return max(portions, key=lambda at: sizes[at[0]][at[1]])
+        source = B if len(laps[B]) > len(laps[A]) else A
+        sizes = Counter(map(self.partition_of, laps[source]))
+        return source, max(range(self.partitions), key=lambda part: sizes[part])
 
     def arrival_pairs(self, source, lap):
         """How many pairs an arrival would write."""

@@ -3,7 +3,7 @@
 import re
 from collections import Counter
 
-from draws import Draws
+from draws import Draws, uneven_feeds
 from model import A, B, MOST_ENTRIES, Model, NamedLap
 
 SHEET_ROWS = 1024
@@ -445,6 +445,20 @@ class Session:
     def mixed(self):
         self.steps(self.draws.pick([12, 30, 60]))
 
+    def bursts(self):
+        """Several rows of one source at a time, with memory full. The rows of one
+        source share a portion or two, and those of the other are spread."""
+        draws = self.draws
+        self.put(b"START,%d,%d,%d" % (draws.pick([2, 3, 4, 5, 16]), draws.between(3, 9),
+                                      draws.pick([24, 40])))
+        feeds = uneven_feeds(draws)
+        self.laps = feeds[A] + feeds[B]
+        for _ in range(draws.between(4, 12)):
+            source, first = draws.below(2), draws.below(6)
+            for at in range(first, first + draws.between(1, 5)):
+                self.say(LETTER[source], *feeds[source][at % len(feeds[source])])
+            self.steps(draws.pick([0, 1, 2]))
+
     def full_lists(self):
         """Runs one portion until its list has 32 entries, and goes on."""
         draws = self.draws
@@ -516,8 +530,8 @@ class SessionCase:
     def __init__(self, seed, number):
         draws = Draws("session", seed, number)
         session = Session(draws)
-        kind = draws.weighted({"mixed": 70, "full_lists": 8, "many_pairs": 3, "odd_lines": 18,
-                               "full_sheet": 0.4})
+        kind = draws.weighted({"mixed": 55, "bursts": 25, "full_lists": 8, "many_pairs": 3,
+                               "odd_lines": 18, "full_sheet": 0.4})
         self.alone = draws.chance(0.06)
         if self.alone and draws.chance(0.7):
             self.unstarted(session)

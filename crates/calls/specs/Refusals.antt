@@ -16,7 +16,7 @@ use Rattle.sheets.specs.Lists.{probedAt}
 use Rattle.sheets.specs.Pairs.{Pair, arrivalPairs, wantedPairs}
 use Rattle.sheets.specs.Rows.{memoryRows, spooled, victim}
 use Rattle.sheets.specs.declared.pairs.Scope.the-variants.{Portion}
-use Rattle.sheets.specs.declared.rows.Largest.{Largest}
+use Rattle.sheets.specs.declared.rows.Victim.{Victim}
 use Rattle.calls.specs.World.{World, pick, countOf, rowsOf, sideOf, seenFrom, flush}
 use Rattle.calls.specs.declared.types.Places.{Places}
 use Rattle.calls.specs.declared.types.Session.{Session}
@@ -87,7 +87,7 @@ abbrev pub full : World → Bool
 full w = leb (w .session .slots) (memoryRows (rowsOf w A) (countOf w A) + memoryRows (rowsOf w B) (countOf w B))
 
 -- the portion to flush
-abbrev pub victimOf : World → Largest
+abbrev pub victimOf : World → Victim
 victimOf w = victim (w .session .parts) (rowsOf w A) (countOf w A) (rowsOf w B) (countOf w B)
 
 -- what has to be flushed for one more row

@@ -11,7 +11,7 @@ use Rattle.stamps.specs.Keys.{inRange, itemOf, itemsMatch, partOf}
 use Rattle.stamps.specs.Stamps.{alive, presentAt, together, covers, used, doneBefore}
 use Rattle.sheets.specs.Layout.{Told, rowAt, putRow, entryAt, putEntry, pairAt, putPair}
 use Rattle.sheets.specs.Lists.{entries, listOf, probedAt}
-use Rattle.sheets.specs.Rows.{lay, victim}
+use Rattle.sheets.specs.Rows.{lay, largestPart, victim}
 use Rattle.sheets.specs.Pairs.{arrivalPairs, wanted, wantedPairs, pairsFrom, pairsAt}
 use Rattle.calls.specs.Answers.{pairsOf}
 use Rattle.calls.specs.World.{World, flush, store, note, shut, move}
@@ -96,31 +96,31 @@ stage clock a b counts entry rowsA answers pairs = record {
 -- after the five rows
 abbrev pub fedStage : Played
 fedStage =
-    stage 7 (row 12 1 4 ++ row 13 3 6 ++ replicate 3 0) (row 12 2 0 ++ row 13 5 0 ++ row 12 7 0) (replicate 32 0) (0 ∷ 0 ∷ []) 2
+    stage 7 (row 12 1 4 ++ row 13 3 0 ++ replicate 3 0) (row 12 2 6 ++ row 13 5 0 ++ row 12 7 0) (replicate 32 0) (0 ∷ 0 ∷ []) 2
     (Taken 0 ∷ Taken 1 ∷ Taken 0 ∷ Taken 1 ∷ Taken 0 ∷ []) (told 0 0 12 ∷ told 1 1 13 ∷ [])
 
 -- after the run, the flush and the sixth row
 abbrev pub runStage : Played
 runStage =
-    stage 10 (row 12 1 4 ++ row 13 3 6 ++ row 12 10 0) (row 12 2 8 ++ row 13 5 0 ++ row 12 7 9) (1 ∷ replicate 31 0) (4 ∷ 7 ∷ []) 3
-    (Taken 0 ∷ Taken 1 ∷ Taken 0 ∷ Taken 1 ∷ Taken 0 ∷ Ran 1 ∷ Ran 0 ∷ Flushed 2 ∷ Taken 0 ∷ []) (told 0 0 12 ∷ told 1 1 13 ∷ told 0 2 12 ∷ [])
+    stage 9 (row 12 1 4 ++ row 13 3 0 ++ row 12 9 0) (row 12 2 6 ++ row 13 5 0 ++ row 12 7 8) (1 ∷ replicate 31 0) (4 ∷ 7 ∷ []) 3
+    (Taken 0 ∷ Taken 1 ∷ Taken 0 ∷ Taken 1 ∷ Taken 0 ∷ Ran 1 ∷ Ran 0 ∷ Flushed 1 ∷ Taken 0 ∷ []) (told 0 0 12 ∷ told 1 1 13 ∷ told 0 2 12 ∷ [])
 
 fed-is : fed ≡ fedStage
-unfolding fed started inRange itemOf itemsMatch partOf alive presentAt together covers used doneBefore rowAt putRow entryAt putEntry pairAt putPair entries listOf probedAt lay victim arrivalPairs wanted wantedPairs pairsFrom flush store note shut move verdict sessionFits roomFor checks joins arrives evicts runs drains effect afterCall ask play
+unfolding fed started inRange itemOf itemsMatch partOf alive presentAt together covers used doneBefore rowAt putRow entryAt putEntry pairAt putPair entries listOf probedAt lay largestPart victim arrivalPairs wanted wantedPairs pairsFrom flush store note shut move verdict sessionFits roomFor checks joins arrives evicts runs drains effect afterCall ask play
 fed-is = refl
 
 run-is : run fedStage ≡ runStage
-unfolding run inRange itemOf itemsMatch partOf alive presentAt together covers used doneBefore rowAt putRow entryAt putEntry pairAt putPair entries listOf probedAt lay victim arrivalPairs wanted wantedPairs pairsFrom flush store note shut move verdict sessionFits roomFor checks joins arrives evicts runs drains effect afterCall ask play
+unfolding run inRange itemOf itemsMatch partOf alive presentAt together covers used doneBefore rowAt putRow entryAt putEntry pairAt putPair entries listOf probedAt lay largestPart victim arrivalPairs wanted wantedPairs pairsFrom flush store note shut move verdict sessionFits roomFor checks joins arrives evicts runs drains effect afterCall ask play
 run-is = refl
 
 drained-answers : drained runStage .answers ≡ runStage .answers ++ (Shut ∷ Shut ∷ More 1 ∷ Done 1 ∷ [])
-unfolding drained inRange itemOf itemsMatch partOf alive presentAt together covers used doneBefore rowAt putRow entryAt putEntry pairAt putPair entries listOf probedAt lay victim arrivalPairs wanted wantedPairs pairsFrom flush store note shut move verdict sessionFits roomFor checks joins arrives evicts runs drains effect afterCall ask play
+unfolding drained inRange itemOf itemsMatch partOf alive presentAt together covers used doneBefore rowAt putRow entryAt putEntry pairAt putPair entries listOf probedAt lay largestPart victim arrivalPairs wanted wantedPairs pairsFrom flush store note shut move verdict sessionFits roomFor checks joins arrives evicts runs drains effect afterCall ask play
 drained-answers = refl
 
 drained-pairs : drained runStage .pairs ≡ runStage .pairs ++ (told 2 0 12 ∷ told 2 2 12 ∷ [])
-unfolding drained inRange itemOf itemsMatch partOf alive presentAt together covers used doneBefore rowAt putRow entryAt putEntry pairAt putPair entries listOf probedAt lay victim arrivalPairs wanted wantedPairs pairsFrom flush store note shut move verdict sessionFits roomFor checks joins arrives evicts runs drains effect afterCall ask play
+unfolding drained inRange itemOf itemsMatch partOf alive presentAt together covers used doneBefore rowAt putRow entryAt putEntry pairAt putPair entries listOf probedAt lay largestPart victim arrivalPairs wanted wantedPairs pairsFrom flush store note shut move verdict sessionFits roomFor checks joins arrives evicts runs drains effect afterCall ask play
 drained-pairs = refl
 
 drained-sheets : (drained runStage .world .a ≡ runStage .world .a) × (drained runStage .world .b ≡ runStage .world .b) × (drained runStage .world .probe ≡ runStage .world .probe)
-unfolding drained inRange itemOf itemsMatch partOf alive presentAt together covers used doneBefore rowAt putRow entryAt putEntry pairAt putPair entries listOf probedAt lay victim arrivalPairs wanted wantedPairs pairsFrom flush store note shut move verdict sessionFits roomFor checks joins arrives evicts runs drains effect afterCall ask play
+unfolding drained inRange itemOf itemsMatch partOf alive presentAt together covers used doneBefore rowAt putRow entryAt putEntry pairAt putPair entries listOf probedAt lay largestPart victim arrivalPairs wanted wantedPairs pairsFrom flush store note shut move verdict sessionFits roomFor checks joins arrives evicts runs drains effect afterCall ask play
 drained-sheets = (refl, refl, refl)

@@ -81,9 +81,10 @@ fn find_room(session: Session, a: &[u32], b: &[u32]) -> Room
 {
     let a_rows = session.a.rows as usize;
     let b_rows = session.b.rows as usize;
-    let held = count_memory(a, a_rows) + count_memory(b, b_rows);
-    if (session.slots as usize) <= held {
-        let victim = find_victim(a, a_rows, b, b_rows, session.parts);
+    let a_held = count_memory(a, a_rows);
+    let b_held = count_memory(b, b_rows);
+    if (session.slots as usize) <= a_held + b_held {
+        let victim = find_victim(a, a_rows, a_held, b, b_rows, b_held, session.parts);
         let source = victim.source;
         return Room::Flush(source, victim.part);
     }

@@ -12,3 +12,4 @@ mod Positions
 pub mod Rises
 mod RoomTurns
 mod RowTurns
+pub mod Victim

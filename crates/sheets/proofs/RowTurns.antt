@@ -1,6 +1,6 @@
 -- The turns of the loops over one sheet's rows: each invariant speaks of what is done so far, and each way through a turn is a lemma.
 -- Assumes nothing.
-use mathlib.Core.Path.{_≡_, refl, sym, ap, _∙_}
+use mathlib.Core.Path.{_≡_, refl, sym, _∙_}
 use mathlib.Core.Bool.{Bool, true, false, cond, and-false}
 use mathlib.Core.List.{List}
 use Prim.Native.Nat.{ℕ, zero, suc, _+_, _≤_, _<_, max}
@@ -9,8 +9,6 @@ use native.Mathlib.Numerals.{add-one}
 use lib.Dec.{eqb}
 use lib.ListN.{length, getD, set, replicate}
 use borrow.Author.Tests.{lt-ltb, le-ltb, eqb-true, eqb-false, eq-eqb, ne-eqb}
-use Rattle.stamps.specs.declared.Source.{Source}
-use Rattle.stamps.specs.declared.Source.the-variants.{A, B}
 use Rattle.stamps.specs.declared.Row.{Row}
 use Rattle.stamps.specs.Counting.{tally, values}
 use Rattle.stamps.specs.Counting.Laws.{tally-le, values-at, values-cong, set-values}
@@ -19,9 +17,9 @@ use Rattle.stamps.specs.Stamps.{inMemory}
 use Rattle.stamps.specs.Stamps.Laws.{stamp}
 use Rattle.sheets.specs.Layout.{rowAt, putRow}
 use Rattle.sheets.specs.Layout.Laws.{length-putRow, row-again}
-use Rattle.sheets.specs.Rows.{hot, spooled, portionRows, latest, flushed, lay, largestOf, victim}
-use Rattle.sheets.specs.declared.rows.Largest.{Largest}
+use Rattle.sheets.specs.Rows.{hot, spooled, portionRows, latest, flushed, lay, firstLargest, largestPart}
 use Rattle.sheets.proofs.Laws.{row-above}
+use Rattle.sheets.proofs.Victim.{first-within}
 
 -- ---- a loop that counts
 
@@ -125,28 +123,24 @@ module _ (parts q : ℕ) (f : ℕ → Row) (i last : ℕ) (h : Topped parts q f 
 
 -- ---- the victim
 
-pub record Leading (size : ℕ → ℕ) (s : Source) (i : ℕ) (best x : Largest) : Type 0 where
-  pub leads : x ≡ largestOf size s i best
+pub record Leading (size : ℕ → ℕ) (i best : ℕ) : Type 0 where
+  pub leads : best ≡ firstLargest size i
 
-module _ (size : ℕ → ℕ) (s : Source) (i : ℕ) (best x : Largest) (h : Leading size s i best x) where
-  pub leading-more : x .size < size i → Leading size s (i + 1) best (record { size = size i; source = s; part = i })
-  leading-more b = record { leads = rw (add-one i, ← h .leads, lt-ltb (x .size) (size i) b) }
+module _ (size : ℕ → ℕ) (i best : ℕ) (h : Leading size i best) where
+  pub leading-more : size best < size i → Leading size (i + 1) i
+  leading-more b = record { leads = rw (add-one i, ← h .leads, lt-ltb (size best) (size i) b) }
 
-  pub leading-less : size i ≤ x .size → Leading size s (i + 1) best x
-  leading-less b = record { leads = rw (add-one i, ← h .leads, le-ltb (x .size) (size i) b) }
+  pub leading-less : size i ≤ size best → Leading size (i + 1) best
+  leading-less b = record { leads = rw (add-one i, ← h .leads, le-ltb (size best) (size i) b) }
 
-largest-cong : (f g : ℕ → ℕ) (s : Source) (n : ℕ) (x : Largest) → ((q : ℕ) → q < n → f q ≡ g q) → largestOf f s n x ≡ largestOf g s n x
-largest-cong f g s zero x h = refl
-largest-cong f g s (suc n) x h = rw (h n (omega arith), largest-cong f g s n x (λ q b. h q (omega arith)))
+first-cong : (f g : ℕ → ℕ) (n m : ℕ) → n ≤ m → ((q : ℕ) → q < m → f q ≡ g q) → firstLargest f n ≡ firstLargest g n
+first-cong f g zero m b h = refl
+first-cong f g (suc n) m b h =
+    rw (first-cong f g n m (omega arith) h, h n (omega arith), h (firstLargest g n) (first-within g n m (omega arith) (omega arith)))
 
--- the sizes are read off the arrays of `count_portions`
-pub victim-is : (parts : ℕ) (f g : ℕ → Row) (n m : ℕ) (of-a of-b : List ℕ) (none best x : Largest) → parts ≤ 16
-    → of-a ≡ values (λ q. portionRows parts q f n) 16 → of-b ≡ values (λ q. portionRows parts q g m) 16
-    → none ≡ record { size = 0; source = A; part = 0 } → best ≡ largestOf (λ q. getD of-a q 0) A parts none
-    → x ≡ largestOf (λ q. getD of-b q 0) B parts best → x ≡ victim parts f n g m
-unfolding victim
-victim-is parts f g n m of-a of-b none best x h ea eb en e₁ e₂ =
-    e₂ ∙ largest-cong (λ q. getD of-b q 0) (λ q. portionRows parts q g m) B parts best (λ q b. rw eb (values-at (λ q. portionRows parts q g m) 16 q 0 (omega arith)))
-    ∙ ap (largestOf (λ q. portionRows parts q g m) B parts)
-    (e₁ ∙ largest-cong (λ q. getD of-a q 0) (λ q. portionRows parts q f n) A parts none (λ q b. rw ea (values-at (λ q. portionRows parts q f n) 16 q 0 (omega arith)))
-    ∙ ap (largestOf (λ q. portionRows parts q f n) A parts) en)
+-- the sizes are read off the array of `count_portions`
+pub largest-is : (parts : ℕ) (f : ℕ → Row) (n : ℕ) (sizes : List ℕ) → parts ≤ 16 → sizes ≡ values (λ q. portionRows parts q f n) 16
+    → firstLargest (λ q. getD sizes q 0) parts ≡ largestPart parts f n
+unfolding largestPart
+largest-is parts f n sizes h e =
+    first-cong (λ q. getD sizes q 0) (λ q. portionRows parts q f n) parts 16 h (λ q b. rw e (values-at (λ q. portionRows parts q f n) 16 q 0 b))

@@ -5,7 +5,6 @@ use mathlib.Core.Bool.{Bool, cond, not, _&&_}
 use mathlib.Core.List.{List}
 use Prim.Native.Nat.{ℕ, zero, suc, _+_, _≤_}
 use lib.Dec.{ltb, eqb}
-use Rattle.stamps.specs.declared.Source.{Source}
 use Rattle.stamps.specs.declared.Source.the-variants.{A, B}
 use Rattle.stamps.specs.declared.Row.{Row}
 use Rattle.stamps.specs.Counting.{tally, top}
@@ -13,7 +12,7 @@ use Rattle.stamps.specs.Keys.{partOf}
 use Rattle.stamps.specs.Stamps.{inMemory}
 use Rattle.stamps.specs.Stamps.Laws.{stamp}
 use Rattle.sheets.specs.Layout.{rowAt, putRow}
-use Rattle.sheets.specs.declared.rows.Largest.{Largest}
+use Rattle.sheets.specs.declared.rows.Victim.{Victim}
 
 -- ---- memory rows and spooled rows
 
@@ -50,20 +49,21 @@ lay f (suc n) l = putRow n (f n) (lay f n l)
 
 -- ---- the victim
 
--- "the one with most memory rows; at a tie A before B, then the lower partition": the first of the largest
-abbrev pub larger : Largest → Largest → Largest
-larger x y = cond (ltb (x .size) (y .size)) y x
+-- the first of the largest of so many sizes, 0 if there is none
+abbrev pub firstLargest : (ℕ → ℕ) → ℕ → ℕ
+firstLargest size zero = 0
+firstLargest size (suc q) = cond (ltb (size (firstLargest size q)) (size q)) q (firstLargest size q)
 
--- the first of the largest among x and the first n partitions of source s, whose sizes are given
-abbrev pub largestOf : (ℕ → ℕ) → Source → ℕ → Largest → Largest
-largestOf size s zero x = x
-largestOf size s (suc q) x = larger (largestOf size s q x) (record { size = size q; source = s; part = q })
+-- a source's "largest portion, lower partition at a tie"
+unfoldable pub largestPart : ℕ → (ℕ → Row) → ℕ → ℕ
+largestPart parts f n = firstLargest (λ q. portionRows parts q f n) parts
 
--- among all portions, A's before B's
-unfoldable pub victim : ℕ → (ℕ → Row) → ℕ → (ℕ → Row) → ℕ → Largest
+-- "from the source with more rows in memory, A at a tie, and within it from the largest portion": f and g are the rows of A and B
+unfoldable pub victim : ℕ → (ℕ → Row) → ℕ → (ℕ → Row) → ℕ → Victim
 victim parts f n g m =
-    largestOf (λ q. portionRows parts q g m) B parts
-    (largestOf (λ q. portionRows parts q f n) A parts (record { size = 0; source = A; part = 0 }))
+    cond (ltb (memoryRows f n) (memoryRows g m))
+    (record { source = B; part = largestPart parts g m })
+    (record { source = A; part = largestPart parts f n })
 
 -- what a flush answers and leaves
 pub record Flushes (parts q clock n : ℕ) (l : List ℕ) (r : ℕ) (l′ : List ℕ) : Type 0 where

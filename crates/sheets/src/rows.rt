@@ -8,7 +8,7 @@ ghost use Prim.Native.Nat.{_+_, _^_, _≤_, _<_};
 ghost use lib.ListN.{length, getD};
 ghost use Rattle.stamps.specs.Counting.{values};
 ghost use Rattle.sheets.specs.Layout.{rowsNeed, rowAt};
-ghost use Rattle.sheets.specs.Rows.{hot, memoryRows, portionRows, latest, Flushes, largestOf, victim};
+ghost use Rattle.sheets.specs.Rows.{hot, memoryRows, portionRows, latest, Flushes, firstLargest, largestPart, victim};
 
 pub fn count_memory(sheet: &[u32], rows: usize) -> usize
     requires { ⌜ rowsNeed rows ≤ length (now sheet) ⌝ }
@@ -44,45 +44,62 @@ pub fn count_portions(sheet: &[u32], rows: usize, parts: u32) -> [usize; 16]
     counts
 }
 
-// A portion, and how many memory rows it has.
-pub struct Largest {
-    pub size: usize,
+// The portion to flush when memory is full.
+pub struct Victim {
     pub source: Source,
     pub part: u32,
 }
 
-// The first of the largest among best and the source's portions.
-fn largest_of(sizes: [usize; 16], source: Source, parts: u32, best: Largest) -> Largest
-    requires { ⌜ parts ≤ 16 ⌝ }
-    ensures { λ r. ⌜ r ≡ largestOf (λ q. getD sizes q 0) source parts best ⌝ }
+// The first of the largest sizes.
+fn first_largest(sizes: [usize; 16], parts: u32) -> u32
+    requires { ⌜ (0 < parts) × (parts ≤ 16) ⌝ }
+    ensures { λ r. ⌜ r ≡ firstLargest (λ q. getD sizes q 0) parts ⌝ }
 {
-    let mut x = best;
+    let mut best: u32 = 0;
     let mut i: u32 = 0;
     while i < parts {
         let part = i;
-        let size = sizes[part as usize];
         i += 1;
-        if x.size < size {
-            x = Largest { size, source, part };
+        if sizes[best as usize] < sizes[part as usize] {
+            best = part;
         }
     }
-    x
+    best
 }
 
-// The portion to flush when memory is full.
-pub fn find_victim(a: &[u32], a_rows: usize, b: &[u32], b_rows: usize, parts: u32) -> Largest
+// The partition of which the source has most rows in memory.
+fn largest_part(sheet: &[u32], rows: usize, parts: u32) -> u32
+    requires { ⌜ (rowsNeed rows ≤ length (now sheet)) × (0 < parts) × (parts ≤ 16) ⌝ }
+    ensures { λ r. ⌜ r ≡ largestPart parts (rowAt (now (sheet .entry))) rows ⌝ }
+{
+    let sizes = count_portions(sheet, rows, parts);
+    first_largest(sizes, parts)
+}
+
+// Each source comes with the number of its rows in memory, so that one sheet is passed over, and once.
+pub fn find_victim(
+    a: &[u32],
+    a_rows: usize,
+    a_held: usize,
+    b: &[u32],
+    b_rows: usize,
+    b_held: usize,
+    parts: u32,
+) -> Victim
     requires { ⌜ (rowsNeed «a_rows» ≤ length (now a)) × (rowsNeed «b_rows» ≤ length (now b)) × (0 < parts) × (parts ≤ 16) ⌝ }
+    requires { ⌜ («a_held» ≡ memoryRows (rowAt (now a)) «a_rows») × («b_held» ≡ memoryRows (rowAt (now b)) «b_rows») ⌝ }
     ensures { λ r. ⌜ r ≡ victim parts (rowAt (now (a .entry))) «a_rows» (rowAt (now (b .entry))) «b_rows» ⌝ }
 {
-    let none = Largest {
-        size: 0,
+    if a_held < b_held {
+        return Victim {
+            source: Source::B,
+            part: largest_part(b, b_rows, parts),
+        };
+    }
+    Victim {
         source: Source::A,
-        part: 0,
-    };
-    let of_a = count_portions(a, a_rows, parts);
-    let best = largest_of(of_a, Source::A, parts, none);
-    let of_b = count_portions(b, b_rows, parts);
-    largest_of(of_b, Source::B, parts, best)
+        part: largest_part(a, a_rows, parts),
+    }
 }
 
 // Row number row is in memory and of the partition.

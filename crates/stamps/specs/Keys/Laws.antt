@@ -3,7 +3,8 @@
 use mathlib.Core.Path.{_≡_, refl, sym, ap}
 use mathlib.Core.Bool.{Bool, true, false, cond}
 use mathlib.Core.Logic.{_↔_}
-use Prim.Native.Nat.{ℕ, _+_, _*_, _%_, _≤_}
+use Prim.Native.Nat.{ℕ, _+_, _*_, _%_, _≤_, _<_}
+use native.Mathlib.Nat.{mod-lt}
 use native.Mathlib.Omega.{arith}
 use lib.Dec.{eqb}
 use borrow.Author.Tests.{eqb-true, eqb-false, eq-eqb, ne-eqb}
@@ -35,6 +36,10 @@ match-keys x y = eqb-true (x .key) (y .key)
 pub match-part : (parts : ℕ) (x y : Item) → itemsMatch x y ≡ true → partOf parts x ≡ partOf parts y
 unfolding partOf
 match-part parts x y e = ap (λ (k : ℕ). k % parts) (match-keys x y e)
+
+pub part-below : (parts : ℕ) (x : Item) → 0 < parts → partOf parts x < parts
+unfolding partOf
+part-below parts x h = mod-lt (x .key) h
 
 -- a number is its last three digits, and what stands before them
 same-digits : (i j k l : ℕ) → j ≤ 999 → l ≤ 999 → i * 1000 + j ≡ k * 1000 + l → (i ≡ k) × (j ≡ l)

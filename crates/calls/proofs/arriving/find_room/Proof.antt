@@ -9,10 +9,12 @@ use Rattle.sheets.specs.Layout.{rowAt}
 use Rattle.calls.proofs.arriving.find_room.Statement.{statement}
 use Rattle.calls.proofs.arriving.find_room.Tie as tie
 
-add-held : tie.Need-add-held
-add-held c =
-    let entry = c .before .before .before .before .before .before in
-    omega (arith, memory-few (rowAt (entry .args .a .now)) (entry .args .session .a .rows) (c .before .count-memory .result) (c .before .count-memory .ensures), memory-few (rowAt (entry .args .b .now)) (entry .args .session .b .rows) (c .count-memory2 .result) (c .count-memory2 .ensures), entry .pre .a-few, entry .pre .b-few)
+add-if1 : tie.Need-add-if1
+add-if1 c =
+    let of-a = c .before .before .count-memory in
+    let of-b = c .before .count-memory2 in
+    let entry = c .before .before .before .before .before .before .before in
+    omega (arith, memory-few (rowAt (entry .args .a .now)) (entry .args .session .a .rows) (of-a .result) (of-a .ensures), memory-few (rowAt (entry .args .b .now)) (entry .args .session .b .rows) (of-b .result) (of-b .ensures), entry .pre .a-few, entry .pre .b-few)
 
 returns : tie.Need-returns
 unfolding roomFor
@@ -32,8 +34,8 @@ find-room-spec =
     (λ c. search needs)
     (λ c κs. search needs)
     (λ c κs. search needs)
-    add-held
     (λ c. search needs)
+    add-if1
     (λ c κs. search needs)
     returns
     returns-2)
