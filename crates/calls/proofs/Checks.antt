@@ -1,15 +1,14 @@
 -- What the checks have seen to, and the laws of checks in order.
 -- Assumes nothing.
-use mathlib.Core.Path.{_≡_, refl}
+use mathlib.Core.Path.{_≡_}
 use mathlib.Core.Bool.{Bool, true, false}
 use mathlib.Core.List.{List}
 use Prim.Native.Nat.{ℕ, zero, suc, _*_, _^_, _≤_, _<_}
 use native.Mathlib.Nat.{le-trans, mul-le-mul-left, mul-le-mul-right}
 use native.Mathlib.Omega.{arith}
-use lib.Dec.{leb, eqb}
+use lib.Dec.{leb}
 use lib.ListN.{getD}
-use borrow.Author.Tests.{eqb-true}
-use Rattle.stamps.specs.Counting.Laws.{tests, both, Each, each}
+use Rattle.stamps.specs.Counting.Laws.{tests, one-more, both, Each, each}
 use Rattle.calls.specs.Refusals.{between, sizeTests, sizesFit, numberTests, numbersFit, countsFit, sessionFits}
 use Rattle.calls.specs.Work.{Sizes, Fits}
 use Rattle.calls.specs.declared.types.Session.{Session}
@@ -39,11 +38,8 @@ sizes-are p m n a b probe h = let t : Each (sizeTests p m n a b probe) = each (s
 
 counts-are : (counts : List ℕ) (n : ℕ) → countsFit counts n ≡ true → (k : ℕ) → k < n → getD counts k 0 ≤ 32
 counts-are counts zero h k b = absurd (omega arith)
-counts-are counts (suc n) h k b = let p = both (countsFit counts n) (leb (getD counts n 0) 32) h in go (eqb k n) refl (counts-are counts n (p .0) k) (p .1)
-  where
-    go : (u : Bool) → eqb k n ≡ u → (k < n → getD counts k 0 ≤ 32) → leb (getD counts n 0) 32 ≡ true → getD counts k 0 ≤ 32
-    go true e ih q = rw (eqb-true k n e) (omega (arith, tests))
-    go false e ih q = ih (omega (arith, tests))
+counts-are counts (suc n) h k b = let p = both (countsFit counts n) (leb (getD counts n 0) 32) h in
+    one-more (λ k. getD counts k 0 ≤ 32) n (counts-are counts n (p .0)) (omega (arith, tests, p .1)) k b
 
 pub fits-are : (t : Session) (a b probe : ℕ) → sessionFits t a b probe ≡ true → Fits t a b probe
 unfolding sessionFits

@@ -15,7 +15,7 @@ use Rattle.stamps.specs.declared.Item.{Item}
 use Rattle.stamps.specs.declared.Row.{Row}
 use Rattle.stamps.specs.declared.Entry.{Entry}
 use Rattle.stamps.specs.Counting.{bit, tally, span, keep, upTo}
-use Rattle.stamps.specs.Counting.Laws.{tests, eqb-ne, tally-le, length-keep, length-span}
+use Rattle.stamps.specs.Counting.Laws.{tests, one-more, eqb-ne, tally-le, length-keep, length-span}
 use Rattle.stamps.specs.Keys.{itemsMatch, partOf}
 use Rattle.stamps.specs.Keys.Laws.{match-part}
 use Rattle.stamps.specs.Stamps.{inMemory}
@@ -56,11 +56,9 @@ rows-lay f n l h = fun-ext λ i. go i n h (ltb i n) refl
     go : (i n : ℕ) → rowsNeed n ≤ length l → (u : Bool) → ltb i n ≡ u → rowAt (lay f n l) i ≡ cond u (f i) (rowAt l i)
     go i n b false e = row-above f n l i (omega (arith, tests))
     go i zero b true e = absurd (omega (arith, tests))
-    go i (suc n) b true e = last (eqb i n) refl (go i n (omega arith) true)
-      where
-        last : (u : Bool) → eqb i n ≡ u → (ltb i n ≡ true → rowAt (lay f n l) i ≡ f i) → rowAt (putRow n (f n) (lay f n l)) i ≡ f i
-        last true g ih = rw (eqb-true i n g) (row-same (lay f n l) n (f n) (rw length-lay b))
-        last false g ih = row-other (lay f n l) n (f n) i (omega (arith, tests)) ∙ ih (lt-ltb i n (omega (arith, tests)))
+    go i (suc n) b true e =
+        one-more (λ k. rowAt (lay f (suc n) l) k ≡ f k) n (λ k c. row-other (lay f n l) n (f n) k (omega arith) ∙ go k n (omega arith) true (lt-ltb k n c))
+        (row-same (lay f n l) n (f n) (rw length-lay b)) i (omega (arith, tests))
 
 -- one row written
 pub rows-put : (l : List ℕ) (n : ℕ) (x : Row) → rowsNeed (suc n) ≤ length l → rowAt (putRow n x l) ≡ (λ i. cond (eqb i n) x (rowAt l i))

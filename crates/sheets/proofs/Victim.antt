@@ -4,13 +4,13 @@ use mathlib.Core.Path.{_≡_, refl, ap}
 use mathlib.Core.Bool.{Bool, true, false, cond, and-true}
 use Prim.Native.Nat.{ℕ, zero, suc, _+_, _≤_, _<_}
 use native.Mathlib.Omega.{arith}
-use lib.Dec.{ltb, eqb}
-use borrow.Author.Tests.{lt-ltb, le-ltb, eqb-true, eq-eqb}
+use lib.Dec.{ltb}
+use borrow.Author.Tests.{lt-ltb, le-ltb, eq-eqb}
 use Rattle.stamps.specs.declared.Source.{Source}
 use Rattle.stamps.specs.declared.Source.the-variants.{A, B}
 use Rattle.stamps.specs.declared.Row.{Row}
 use Rattle.stamps.specs.Counting.{bit}
-use Rattle.stamps.specs.Counting.Laws.{tests}
+use Rattle.stamps.specs.Counting.Laws.{tests, one-more}
 use Rattle.stamps.specs.Keys.{partOf}
 use Rattle.stamps.specs.Keys.Laws.{part-below}
 use Rattle.stamps.specs.Stamps.{inMemory}
@@ -32,13 +32,6 @@ pub record FirstLargest (size : ℕ → ℕ) (n q : ℕ) : Type 0 where
   pub largest : (k : ℕ) → k < n → size k ≤ size q
   pub first : (k : ℕ) → k < q → size k < size q
 
-one-more : (size : ℕ → ℕ) (n c : ℕ) → ((k : ℕ) → k < n → size k ≤ c) → size n ≤ c → (k : ℕ) → k < suc n → size k ≤ c
-one-more size n c h last k b = go (eqb k n) refl
-  where
-    go : (u : Bool) → eqb k n ≡ u → size k ≤ c
-    go true e = rw (eqb-true k n e) last
-    go false e = h k (omega (arith, tests))
-
 pub first-largest : (size : ℕ → ℕ) (n : ℕ) → FirstLargest size n (firstLargest size n)
 first-largest size zero = record { largest = λ k b. absurd (omega arith); first = λ k b. absurd (omega arith) }
 first-largest size (suc n) = go (ltb (size (firstLargest size n)) (size n)) refl (first-largest size n)
@@ -46,10 +39,10 @@ first-largest size (suc n) = go (ltb (size (firstLargest size n)) (size n)) refl
     go : (u : Bool) → ltb (size (firstLargest size n)) (size n) ≡ u → FirstLargest size n (firstLargest size n)
         → FirstLargest size (suc n) (cond u n (firstLargest size n))
     go true e h = record {
-      largest = one-more size n (size n) (λ k b. omega (arith, tests, h .largest k b)) (omega arith);
+      largest = one-more (λ k. size k ≤ size n) n (λ k b. omega (arith, tests, h .largest k b)) (omega arith);
       first = λ k b. omega (arith, tests, h .largest k b);
     }
-    go false e h = record { largest = one-more size n (size (firstLargest size n)) (h .largest) (omega (arith, tests)); first = h .first }
+    go false e h = record { largest = one-more (λ k. size k ≤ size (firstLargest size n)) n (h .largest) (omega (arith, tests)); first = h .first }
 
 -- ---- a largest portion is not empty
 

@@ -27,7 +27,7 @@ pub fn count_memory(sheet: &[u32], rows: usize) -> usize
 }
 
 // The memory rows of each partition, in one pass.
-pub fn count_portions(sheet: &[u32], rows: usize, parts: u32) -> [usize; 16]
+fn count_portions(sheet: &[u32], rows: usize, parts: u32) -> [usize; 16]
     requires { ⌜ (rowsNeed rows ≤ length (now sheet)) × (0 < parts) × (parts ≤ 16) ⌝ }
     ensures { λ r. ⌜ r ≡ values (λ q. portionRows parts q (rowAt (now (sheet .entry))) rows) 16 ⌝ }
 {

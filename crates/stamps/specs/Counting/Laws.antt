@@ -1,6 +1,6 @@
 -- Laws of counting and choosing, and the tests as a ruleset for omega. By induction on the count or the list.
 -- Assumes nothing.
-use mathlib.Core.Path.{_≡_, refl, sym, ap, _∙_}
+use mathlib.Core.Path.{_≡_, refl, sym, ap, _∙_, subst}
 use mathlib.Core.Bool.{Bool, true, false, cond, _&&_, false≢true}
 use mathlib.Core.Logic.{_≢_}
 use mathlib.Core.List.{List, [], _∷_, _++_, map}
@@ -18,6 +18,14 @@ pub eqb-ne : (i j : ℕ) → eqb i j ≡ false → i ≢ j
 eqb-ne i j = eqb-false i j
 
 pub ruleset tests = (ltb-true, ltb-false, leb-true, leb-false, eqb-true, eqb-ne)
+
+-- what holds below n, and at n, holds below n + 1
+pub one-more : (P : ℕ → Type 0) (n : ℕ) → ((k : ℕ) → k < n → P k) → P n → (k : ℕ) → k < suc n → P k
+one-more P n h last k b = go (eqb k n) refl
+  where
+    go : (u : Bool) → eqb k n ≡ u → P k
+    go true e = subst P (sym (eqb-true k n e)) last
+    go false e = h k (omega (arith, tests))
 
 -- both halves of a test that holds
 pub both : (u v : Bool) → (u && v) ≡ true → (u ≡ true) × (v ≡ true)
@@ -74,11 +82,7 @@ top-le f (suc n) c h = omega (arith, h n (omega arith), top-le f n c (λ i k. h 
 
 pub le-top : (f : ℕ → ℕ) (n i : ℕ) → i < n → f i ≤ top f n
 le-top f zero i h = absurd (omega arith)
-le-top f (suc n) i h = go (eqb i n) refl (le-top f n i)
-  where
-    go : (u : Bool) → eqb i n ≡ u → (i < n → f i ≤ top f n) → f i ≤ top f (suc n)
-    go true e ih = rw (eqb-true i n e) (omega arith)
-    go false e ih = omega (arith, ih (omega (arith, tests)))
+le-top f (suc n) i h = one-more (λ k. f k ≤ top f (suc n)) n (λ k b. omega (arith, le-top f n k b)) (omega arith) i h
 
 -- ---- values
 
@@ -90,11 +94,9 @@ length-values f (suc n) = length-append (values f n) (f n ∷ []) ∙ omega (ari
 pub values-at : {X : Type 0} (f : ℕ → X) (n i : ℕ) (d : X) → i < n → getD (values f n) i d ≡ f i
 unfolding values
 values-at f zero i d h = absurd (omega arith)
-values-at f (suc n) i d h = go (eqb i n) refl (values-at f n i d)
-  where
-    go : (u : Bool) → eqb i n ≡ u → (i < n → getD (values f n) i d ≡ f i) → getD (values f n ++ (f n ∷ [])) i d ≡ f i
-    go true e ih = rw (eqb-true i n e) (getD-at (values f n) (f n) [] d n (length-values f n))
-    go false e ih = List·getD-append (values f n) (f n ∷ []) d i (rw length-values (omega (arith, tests))) ∙ ih (omega (arith, tests))
+values-at f (suc n) i d h =
+    one-more (λ k. getD (values f (suc n)) k d ≡ f k) n (λ k b. List·getD-append (values f n) (f n ∷ []) d k (rw length-values b) ∙ values-at f n k d b)
+    (getD-at (values f n) (f n) [] d n (length-values f n)) i h
 
 pub values-cong : {X : Type 0} (f g : ℕ → X) (n : ℕ) → ((i : ℕ) → i < n → f i ≡ g i) → values f n ≡ values g n
 unfolding values
