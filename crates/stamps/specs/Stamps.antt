@@ -1,4 +1,5 @@
--- Stamps: when a row was in memory, and which pairs were done before. DTS enters every rule through `alive` alone.
+-- Stamps: when a row was in memory, and which pairs were done before. Rules 2 and 3 ask a DTS whether its row was still in memory (`alive`),
+-- rule 1 whether it had left (`hadLeftWhen`), as the figure does: one is the other's opposite (`left-is` in Meaning).
 use mathlib.Core.Bool.{Bool, false, not, _&&_, _||_}
 use mathlib.Core.List.{List, [], _∷_}
 use Prim.Native.Nat.{ℕ}
@@ -20,9 +21,14 @@ alive t r = inMemory r || ltb t (r .dts)
 unfoldable pub presentAt : ℕ → Row → Bool
 presentAt t r = leb (r .ats) t && alive t r
 
--- rule 1, in memory together: "(DTS of b is 0, or ATS of a < DTS of b) and (DTS of a is 0, or ATS of b < DTS of a)"
+-- "a had left when b came": in figure 5 of the XJoin report, the range of a, ATS to DTS, ends before that of b begins, or where it begins.
+-- DTS 0 is not having left
+abbrev pub hadLeftWhen : Row → Row → Bool
+hadLeftWhen a b = not (inMemory a) && leb (a .dts) (b .ats)
+
+-- rule 1, in memory together: "a had left when b came, or b had left when a came", as in figure 5(b), "otherwise together", as in 5(a)
 unfoldable pub together : Row → Row → Bool
-together x y = alive (x .ats) y && alive (y .ats) x
+together a b = not (hadLeftWhen a b || hadLeftWhen b a)
 
 -- rule 2 for one entry: "DTS of a is not 0 .. DTS of a <= DTS-last while b was in memory at ProbeTS". Rule 3 is this with a and b in each other's place
 unfoldable pub covers : Entry → Row → Row → Bool

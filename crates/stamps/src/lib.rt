@@ -3,7 +3,7 @@ ghost use mathlib.Core.Path.{_≡_};
 ghost use Prim.Native.Nat.{_<_};
 ghost use Rattle.stamps.specs.Keys.{inRange, made, itemsMatch, partOf};
 ghost use Rattle.stamps.specs.Sources.{other};
-ghost use Rattle.stamps.specs.Stamps.{alive, presentAt, together, covers};
+ghost use Rattle.stamps.specs.Stamps.{alive, presentAt, hadLeftWhen, together, covers};
 
 // A: lap passings. B: pack fault notes.
 pub enum Source {
@@ -98,11 +98,18 @@ pub fn present_at(t: u32, row: Row) -> bool
     (row.ats <= t) & alive_at(t, row)
 }
 
-// Rule 1 of 'done before'.
-pub fn were_together(x: Row, y: Row) -> bool
-    ensures { λ r. ⌜ r ≡ together x y ⌝ }
+// In figure 5 of the XJoin report: the range of a, ATS to DTS, ends before that of b begins, or where it begins. With DTS 0 it has not left.
+fn had_left_when(a: Row, b: Row) -> bool
+    ensures { λ r. ⌜ r ≡ hadLeftWhen a b ⌝ }
 {
-    alive_at(x.ats, y) & alive_at(y.ats, x)
+    (a.dts != 0) & (a.dts <= b.ats)
+}
+
+// Rule 1 of 'done before': a had left when b came, or b had left when a came, as in figure 5(b), otherwise together, as in 5(a).
+pub fn were_together(a: Row, b: Row) -> bool
+    ensures { λ r. ⌜ r ≡ together a b ⌝ }
+{
+    !(had_left_when(a, b) | had_left_when(b, a))
 }
 
 // Rules 2 and 3 for one entry: the run that left it used the spooled x while y was in memory.

@@ -1,4 +1,4 @@
--- `stamps::were_together` meets its contract: its test is `together`, opened, over what `alive_at` answers.
+-- `stamps::were_together` meets its contract: its test is `together`, opened, over what `had_left_when` answers.
 -- Assumes nothing.
 use borrow.Author.Needs.{needs}
 use Rattle.stamps.specs.Stamps.Meaning.{together-is}
@@ -6,7 +6,7 @@ use Rattle.stamps.proofs.were_together.Statement.{statement}
 use Rattle.stamps.proofs.were_together.Tie as tie
 
 returns : tie.Need-returns
-returns c = rw (together-is, c .before .alive-at .ensures, c .alive-at2 .ensures)
+returns c = rw (together-is, c .before .had-left-when .ensures, c .had-left-when2 .ensures)
 
 pub were-together-spec : {M : Type 1} → statement M
 were-together-spec = tie.close (tie.spec (λ c κs. search needs) (λ c κs. search needs) returns)

@@ -1,14 +1,15 @@
 -- What the layers above may know of stamps: what a flush, an arrival and a run's entry do to 'done before'.
 -- That ATS is at least 1, ATS < DTS, and DTS-last <= ProbeTS is needed nowhere. Assumes nothing.
 use mathlib.Core.Path.{_≡_, refl, sym, ap, ap₂, _∙_}
-use mathlib.Core.Bool.{Bool, true, false, not, _&&_, _||_, and-comm, and-true, and-false, or-comm, or-assoc, or-true, or-false}
+use mathlib.Core.Bool.{Bool, true, false, not, _&&_, _||_, and-true, and-false, or-comm, or-assoc, or-true, or-false}
 use mathlib.Core.List.{List, [], _∷_, _++_}
 use Prim.Native.Nat.{ℕ, _≤_, _<_}
 use native.Mathlib.Omega.{arith}
 use borrow.Author.Tests.{lt-ltb, le-ltb, lt-leb, le-leb}
 use Rattle.stamps.specs.declared.Row.{Row}
 use Rattle.stamps.specs.declared.Entry.{Entry}
-use Rattle.stamps.specs.Stamps.{inMemory, alive, presentAt, together, covers, used, doneBefore}
+use Rattle.stamps.specs.Stamps.{inMemory, alive, presentAt, hadLeftWhen, together, covers, used, doneBefore}
+use Rattle.stamps.specs.Stamps.Meaning.{figure-is-rule}
 
 -- every stamp of a list is at most c
 abbrev pub Below : ℕ → List Entry → Type 0
@@ -39,13 +40,13 @@ done-is ex ey x y = refl
 
 -- two rows in memory are done before
 pub done-memory : (ex ey : List Entry) (x y : Row) → inMemory x ≡ true → inMemory y ≡ true → doneBefore ex ey x y ≡ true
-unfolding doneBefore together alive
+unfolding doneBefore together
 done-memory ex ey x y h k = rw (h, k)
 
 -- when the sources swap
 pub done-swap : (ex ey : List Entry) (x y : Row) → doneBefore ex ey x y ≡ doneBefore ey ex y x
 unfolding doneBefore together
-done-swap ex ey x y = ap₂ _||_ (and-comm (alive (x .ats) y) (alive (y .ats) x)) (or-comm (used ex x y) (used ey y x))
+done-swap ex ey x y = ap₂ _||_ (ap not (or-comm (hadLeftWhen x y) (hadLeftWhen y x))) (or-comm (used ex x y) (used ey y x))
 
 -- ---- a flush
 
@@ -78,9 +79,9 @@ alive-kept c {x} {x′} {y} {y′} h kx ky = ap (λ (t : ℕ). alive t y′) (kx
 -- a row flushed later than every stamp in sight changes 'done before' of no pair
 pub done-kept : (c : ℕ) (ex ey : List Entry) {x x′ y y′ : Row} → Below c ex → Below c ey → x .ats ≤ c → y .ats ≤ c
     → Kept c x x′ → Kept c y y′ → doneBefore ex ey x′ y′ ≡ doneBefore ex ey x y
-unfolding doneBefore together
-done-kept c ex ey bx by ax ay kx ky =
-    rw (used-kept c ex bx kx ky, used-kept c ey by ky kx, alive-kept c ax kx ky, alive-kept c ay ky kx)
+unfolding doneBefore
+done-kept c ex ey {x} {x′} {y} {y′} bx by ax ay kx ky =
+    rw (figure-is-rule x y, figure-is-rule x′ y′, used-kept c ex bx kx ky, used-kept c ey by ky kx, alive-kept c ax kx ky, alive-kept c ay ky kx)
 
 -- ---- an arrival
 
@@ -98,9 +99,9 @@ used-before c (e ∷ es) x y b h = rw (lt-leb (x .ats) (e .probe) (omega arith),
 -- a new row is done before exactly with the rows in memory
 pub done-new : (c : ℕ) (ex ey : List Entry) (x y : Row) → Below c ey → inMemory x ≡ true → c < x .ats → y .dts ≤ c
     → doneBefore ex ey x y ≡ inMemory y
-unfolding doneBefore together alive
+unfolding doneBefore alive
 done-new c ex ey x y b m h k =
-    rw (used-by-memory ex x y m, used-before c ey x y b h, m, le-ltb (x .ats) (y .dts) (omega arith), or-false (inMemory y), and-true, or-false)
+    rw (used-by-memory ex x y m, used-before c ey x y b h, figure-is-rule, m, le-ltb (x .ats) (y .dts) (omega arith), or-false (inMemory y), and-true, or-false)
 
 -- ---- a run's entry
 
