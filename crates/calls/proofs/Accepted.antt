@@ -23,10 +23,9 @@ use Rattle.sheets.proofs.Laws.{flushed-item}
 use Rattle.calls.specs.Answers.{refused}
 use Rattle.calls.specs.Calls.{after, arrives, joins, evicts, tries, runs, drains, lists, effect, settle, afterCall}
 use Rattle.calls.specs.Rounds.{Lent}
-use Rattle.calls.specs.Demand3.{run, offered, accepted, itemsOf}
+use Rattle.calls.specs.Demand3.{afterCalls, offered, accepted, itemsOf}
 use Rattle.calls.specs.Refusals.{verdict, roomFor, makeRoom, idle, roomIn, checks}
-use Rattle.calls.specs.Work.{same}
-use Rattle.calls.specs.World.{World, countOf, sheetOf, sideOf, flush, store, note, shut, move, pass}
+use Rattle.calls.specs.World.{World, same, countOf, sheetOf, sideOf, flush, store, note, shut, move, pass}
 use Rattle.calls.specs.declared.types.Call.{Call}
 use Rattle.calls.specs.declared.types.Call.the-variants.{Arrive, Evict, Run, Close, Drain, Lone}
 use Rattle.calls.specs.declared.types.Answer.the-variants.{Ran}
@@ -110,13 +109,13 @@ module _ (w : World) (l : List Told) (o : List ℕ) (g : Sits w l) (u : Source) 
       go Good e = effect-items c e ∙ ap (λ (v : Bool). itemsOf w u ++ map itemOf (cond v [] (offered u c))) (sym (accepts w o c))
       go (No y) e = unchanged w refl
 
-pub run-accepts : (w : World) (l : List Told) (cs : List Lent) → Sits w l → (s : Source) → itemsOf (run w l cs .world) s ≡ itemsOf w s ++ map itemOf (accepted s w cs)
-run-accepts w l [] g s = sym (append-nil (itemsOf w s))
-run-accepts w l (c ∷ cs) g s =
+pub calls-accept : (w : World) (l : List Told) (cs : List Lent) → Sits w l → (s : Source) → itemsOf (afterCalls w l cs .world) s ≡ itemsOf w s ++ map itemOf (accepted s w cs)
+calls-accept w l [] g s = sym (append-nil (itemsOf w s))
+calls-accept w l (c ∷ cs) g s =
     let r = afterCall w (c .out) (c .call) in
     let new = cond (refused (r .answer)) [] (offered s (c .call)) in
     let rest = accepted s (r .world) cs in
-    run-accepts _ _ cs (sits-call w l (c .out) g (c .call)) s
+    calls-accept _ _ cs (sits-call w l (c .out) g (c .call)) s
     ∙ ap (λ (k : List Item). k ++ map itemOf rest) (call-items w l (c .out) g s (c .call))
     ∙ append-assoc (itemsOf w s) (map itemOf new) (map itemOf rest)
     ∙ ap (λ (k : List Item). itemsOf w s ++ k) (sym (map-append itemOf new rest))

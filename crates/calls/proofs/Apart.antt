@@ -17,8 +17,7 @@ use Rattle.calls.specs.Demand3.{wrote}
 use Rattle.calls.specs.Lone.{asks, Heard, heardOf, heard, only, others}
 use Rattle.calls.specs.Refusals.{verdict, sessionFits, bothClosed, roomFor, makeRoom, arrived, idle, rowChecks, roomCheck, roomIn, checks}
 use Rattle.calls.specs.Rounds.{Lent}
-use Rattle.calls.specs.Work.{same}
-use Rattle.calls.specs.World.{World, pick, countOf, withLone, withPlace, flush, store, note, shut, move, pass}
+use Rattle.calls.specs.World.{World, pick, same, countOf, withLone, withPlace, flush, store, note, shut, move, pass}
 use Rattle.calls.specs.declared.types.Places.{Places}
 use Rattle.calls.specs.declared.types.Call.{Call}
 use Rattle.calls.specs.declared.types.Call.the-variants.{Arrive, Evict, Run, Close, Drain, Lone}

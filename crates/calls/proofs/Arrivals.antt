@@ -23,8 +23,8 @@ use Rattle.sheets.specs.Rows.{hot, flushed, lay}
 use Rattle.sheets.proofs.Laws.{length-lay, rows-lay, length-arrival}
 use Rattle.calls.specs.Calls.{After, after, joins, arrives, effect, afterCall}
 use Rattle.calls.specs.Refusals.{verdict, sessionFits, rowChecks, roomCheck, roomFor, makeRoom, arrived, checks}
-use Rattle.calls.specs.Work.{world, Fits, Rows, admitted, same, rowsAfter, Space}
-use Rattle.calls.specs.World.{World, pick, countOf, sheetOf, rowsOf, closedOf, withClock, withFeed, withSheet, flush, store}
+use Rattle.calls.specs.Work.{Fits, Rows, admitted, rowsAfter, Space}
+use Rattle.calls.specs.World.{World, world, pick, same, countOf, sheetOf, rowsOf, closedOf, withClock, withFeed, withSheet, flush, store}
 use Rattle.calls.specs.declared.types.Why.{Why}
 use Rattle.calls.specs.declared.types.Why.the-variants.{RoomShort}
 use Rattle.calls.specs.declared.types.Call.the-variants.{Arrive}

@@ -1,9 +1,9 @@
--- Demand 3 holds at every moment of every run of calls after an accepted opening: from what holds between calls, by induction over the calls.
+-- Demand 3 holds after an accepted opening and any list of calls: from what holds between calls, by induction over the calls.
 -- Assumes nothing.
 use mathlib.Core.Path.{_≡_, refl, sym, ap, _∙_, subst}
 use mathlib.Core.Bool.{Bool, true, false, cond, not, _&&_, _||_, or-true}
 use mathlib.Core.List.{List, [], _∷_, _++_, map}
-use Prim.Native.Nat.{ℕ, _+_, _*_, _-_, _≤_, _<_}
+use Prim.Native.Nat.{ℕ, _+_, _*_, _≤_, _<_}
 use native.Mathlib.Omega.{arith}
 use lib.Dec.{ltb}
 use lib.ListN.{length, drop, length-map}
@@ -23,9 +23,8 @@ use Rattle.sheets.proofs.Rises.{missing-owed, drain-parts, owed-after, position
 use Rattle.calls.specs.Answers.{codeOf}
 use Rattle.calls.specs.Calls.{After, owed, drains, effect, settle, afterCall, opens}
 use Rattle.calls.specs.Rounds.{Handed, sayingAt, Lent}
-use Rattle.calls.specs.Demand3.{wrote, opened, accepted, itemsOf, pairOf, owes, left, Demand3, now, written}
+use Rattle.calls.specs.Demand3.{wrote, opened, ForAnyCalls, accepted, itemsOf, pairOf, owes, left, Demand3, now, written}
 use Rattle.calls.specs.Refusals.{Check, verdict, tryChecks, sessionFits, bothClosed, idle, roomIn, checks}
-use Rattle.calls.specs.Work.{world}
 use Rattle.calls.specs.World.{World, countOf, rowsOf, seenFrom, move}
 use Rattle.calls.specs.declared.types.Call.{Call}
 use Rattle.calls.specs.declared.types.Call.the-variants.{Arrive, Evict, Run, Close, Drain, Lone}
@@ -33,11 +32,11 @@ use Rattle.calls.specs.declared.types.Why.the-variants.{BadSheet}
 use Rattle.calls.specs.declared.types.Answer.the-variants.{Opened, More, Done, Refused}
 use Rattle.calls.specs.declared.refusals.Verdict.{Verdict}
 use Rattle.calls.specs.declared.refusals.Verdict.the-variants.{Good, No}
-use Rattle.calls.proofs.Accepted.{run-accepts}
+use Rattle.calls.proofs.Accepted.{calls-accept}
 use Rattle.calls.proofs.Fitting.{Fit, fits-hold, fit-move}
 use Rattle.calls.proofs.Laps.{of-one-lap}
 use Rattle.calls.proofs.Laws.{refused-by}
-use Rattle.calls.proofs.Moments.{sits-opened, no-items, sits-run}
+use Rattle.calls.proofs.Moments.{sits-opened, no-items, sits-calls}
 use Rattle.calls.proofs.Rounds.{said-last, Gives, gives-first, handed, rounds, Shut, shut-good}
 use Rattle.calls.proofs.Owing.{isOut}
 use Rattle.calls.proofs.Settling.{settle-good}
@@ -50,7 +49,7 @@ prompt-now : (w : World) (l : List Told) → Sits w l → (i j : ℕ) → i < co
 prompt-now w l g i j a b h k m = g .sound .tells (pairOf w i j)
     ∙ rw (lt-ltb i (countOf w A) a, lt-ltb j (countOf w B) b, m, eq-eqb (rowsOf w A i .item .key) (rowsOf w A i .item .key) refl, done-memory _ _ (rowsOf w A i) (rowsOf w B j) h k)
 
--- ---- c: one drain
+-- ---- c and d: one drain, and what it leaves to the next
 
 module _ (w : World) (l : List Told) (g : Sits w l) where
   left-owed : left w l ≡ told A (seenFrom A w) (owed w)
@@ -160,13 +159,13 @@ module _ (p m n : ℕ) (a b probe : List ℕ) (e : opens p m n (length a) (lengt
   l = written start calls
 
   sits : Sits w l
-  sits = sits-run start [] calls (sits-opened p m n a b probe e)
+  sits = sits-calls start [] calls (sits-opened p m n a b probe e)
 
   rows-now : (s : Source) → itemsOf w s ≡ map itemOf (accepted s start calls)
-  rows-now s = run-accepts start [] calls (sits-opened p m n a b probe e) s ∙ ap (λ (k : List Item). k ++ map itemOf (accepted s start calls)) (no-items p m n a b probe e s)
+  rows-now s = calls-accept start [] calls (sits-opened p m n a b probe e) s ∙ ap (λ (k : List Item). k ++ map itemOf (accepted s start calls)) (no-items p m n a b probe e s)
 
-  pub demand-3 : Demand3 start calls
-  demand-3 = record {
+  holds : Demand3 start calls
+  holds = record {
     rows = rows-now;
     laps = of-one-lap start w calls rows-now;
     once = λ x. rw (sits .sound .tells x) (half-le (isPair (seenFrom A w) x) _);
@@ -178,3 +177,6 @@ module _ (p m n : ℕ) (a b probe : List ℕ) (e : opens p m n (length a) (lengt
     whole = whole-now w l sits;
     fits = fits-now w l sits;
   }
+
+pub demand-3 : ForAnyCalls Demand3
+demand-3 = holds

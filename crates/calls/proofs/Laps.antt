@@ -20,8 +20,7 @@ use Rattle.calls.specs.Calls.{effect, settle, afterCall}
 use Rattle.calls.specs.Demand3.{offered, accepted, itemsOf}
 use Rattle.calls.specs.Refusals.{verdict, roomIn, checks}
 use Rattle.calls.specs.Rounds.{Lent}
-use Rattle.calls.specs.Work.{same}
-use Rattle.calls.specs.World.{World, countOf, rowsOf}
+use Rattle.calls.specs.World.{World, same, countOf, rowsOf}
 use Rattle.calls.specs.declared.types.Call.{Call}
 use Rattle.calls.specs.declared.types.Call.the-variants.{Arrive, Evict, Run, Close, Drain, Lone}
 use Rattle.calls.specs.declared.refusals.Verdict.{Verdict}

@@ -16,9 +16,8 @@ use Rattle.stamps.specs.Keys.{itemOf}
 use Rattle.sheets.specs.Layout.{roomOf, singleRoom}
 use Rattle.sheets.specs.Rows.{hot}
 use Rattle.calls.specs.Answers.{refused, writtenOf}
-use Rattle.calls.specs.Calls.{After, after, joins, arrives, evicts, tries, runs, owed, drains, alone, lists, effect, settle, afterCall, fresh, opens}
+use Rattle.calls.specs.Calls.{After, after, leaves, joins, arrives, evicts, tries, runs, owed, drains, alone, lists, effect, settle, afterCall, fresh, opens}
 use Rattle.calls.specs.Refusals.{Check, check, verdict, sizesFit, roomFor, makeRoom, idle, portionChecks, rowChecks, roomCheck, tryChecks, roomIn, checks}
-use Rattle.calls.specs.Work.{leaves, world}
 use Rattle.calls.specs.World.{World, countOf, rowsOf, flush, store, note, shut, move, pass, sideOf}
 use Rattle.calls.specs.declared.types.Call.{Call}
 use Rattle.calls.specs.declared.types.Call.the-variants.{Arrive, Evict, Run, Close, Drain, Lone}

@@ -1,4 +1,4 @@
--- Lone calls list every row without partner once, and hand them out as drains do pairs, at every moment of every run of calls after an
+-- Lone calls list every row without partner once, and hand them out as drains do pairs, after any list of calls that follows an
 -- accepted opening: from what holds between calls, by induction over the calls. Assumes nothing.
 use mathlib.Core.Path.{_≡_, refl, sym, ap, _∙_, subst}
 use mathlib.Core.Bool.{Bool, true, false, cond, _&&_, and-true, and-false, true≢false, false≢true}
@@ -20,12 +20,11 @@ use Rattle.sheets.proofs.Handing.{read-told, Parts}
 use Rattle.sheets.proofs.Laws.{single-words}
 use Rattle.calls.specs.Answers.{singlesOf}
 use Rattle.calls.specs.Calls.{After, alone, lists, effect, settle, afterCall, opens}
-use Rattle.calls.specs.Demand3.{wrote, run, opened}
+use Rattle.calls.specs.Demand3.{wrote, afterCalls, opened, ForAnyCalls}
 use Rattle.calls.specs.Lone.{asks, named, listed, toList, Lones}
 use Rattle.calls.specs.Refusals.{verdict, bothClosed, checks}
 use Rattle.calls.specs.Rounds.{Lent, Handed, sayingAt}
-use Rattle.calls.specs.Work.{same}
-use Rattle.calls.specs.World.{World, pick, countOf, placeOf, itemsFrom, pass}
+use Rattle.calls.specs.World.{World, pick, same, countOf, placeOf, itemsFrom, pass}
 use Rattle.calls.specs.declared.types.Places.{Places}
 use Rattle.calls.specs.declared.types.Call.{Call}
 use Rattle.calls.specs.declared.types.Call.the-variants.{Lone}
@@ -35,7 +34,7 @@ use Rattle.calls.specs.declared.refusals.Verdict.the-variants.{Good, No}
 use Rattle.calls.proofs.Apart.{by-kind, other-asks, asks-own, viewOf, closed-leaves, lone-leaves, own-places, others-heard, lone-heard}
 use Rattle.calls.proofs.Seen.{same-own}
 use Rattle.calls.proofs.Fitting.{Fit, fit-pass}
-use Rattle.calls.proofs.Moments.{sits-opened, no-places, sits-run}
+use Rattle.calls.proofs.Moments.{sits-opened, no-places, sits-calls}
 use Rattle.calls.proofs.Rounds.{said-last, Gives, gives-first, handed, rounds, Shut, shut-good}
 use Rattle.calls.proofs.Settling.{settle-good, either, verdict-first, verdict-rest}
 use Rattle.calls.proofs.Steps.{Sits, sits-call}
@@ -156,11 +155,11 @@ module _ (s : Source) (w : World) (l : List Told) (o : List ℕ) (m : List Singl
           (from-view s _ m (subst (λ (x : World). Tracks s x m) (sym (closed-leaves w o h s c e)) (to-view s w m t)))
       go false h v e = subst (λ (v : Bool). Tracks s (afterCall w o c .world) (m ++ cond v (named (afterCall w o c)) [])) e (tracks-open h c)
 
-tracks-run : (s : Source) (w : World) (l : List Told) (m : List Single) (cs : List Lent) → Sits w l → Tracks s w m → Tracks s (run w l cs .world) (m ++ listed s w cs)
-tracks-run s w l m [] g t = subst (Tracks s w) (sym (append-nil m)) t
-tracks-run s w l m (c ∷ cs) g t = let r = afterCall w (c .out) (c .call) in
-    subst (Tracks s (run w l (c ∷ cs) .world)) (append-assoc m (cond (asks s (c .call)) (named r) []) (listed s (r .world) cs))
-    (tracks-run s (r .world) (l ++ wrote r) (m ++ cond (asks s (c .call)) (named r) []) cs (sits-call w l (c .out) g (c .call)) (tracks-call s w l (c .out) m g t (c .call)))
+tracks-calls : (s : Source) (w : World) (l : List Told) (m : List Single) (cs : List Lent) → Sits w l → Tracks s w m → Tracks s (afterCalls w l cs .world) (m ++ listed s w cs)
+tracks-calls s w l m [] g t = subst (Tracks s w) (sym (append-nil m)) t
+tracks-calls s w l m (c ∷ cs) g t = let r = afterCall w (c .out) (c .call) in
+    subst (Tracks s (afterCalls w l (c ∷ cs) .world)) (append-assoc m (cond (asks s (c .call)) (named r) []) (listed s (r .world) cs))
+    (tracks-calls s (r .world) (l ++ wrote r) (m ++ cond (asks s (c .call)) (named r) []) cs (sits-call w l (c .out) g (c .call)) (tracks-call s w l (c .out) m g t (c .call)))
 
 -- ---- after Done
 
@@ -192,16 +191,16 @@ module _ (p m n : ℕ) (a b probe : List ℕ) (e : opens p m n (length a) (lengt
   begun = opened p m n a b probe
 
   abbrev w : World
-  w = run begun [] calls .world
+  w = afterCalls begun [] calls .world
 
   abbrev names : Source → List Single
   names s = listed s begun calls
 
-  sits : Sits w (run begun [] calls .written)
-  sits = sits-run begun [] calls (sits-opened p m n a b probe e)
+  sits : Sits w (afterCalls begun [] calls .written)
+  sits = sits-calls begun [] calls (sits-opened p m n a b probe e)
 
   tracks : (s : Source) → Tracks s w (names s)
-  tracks s = tracks-run s begun [] [] calls (sits-opened p m n a b probe e)
+  tracks s = tracks-calls s begun [] [] calls (sits-opened p m n a b probe e)
       (record { start = λ h. no-places p m n a b probe e s; tells = λ x. sym (none-passed (itemsFrom s begun) x (placeOf begun s) (no-places p m n a b probe e s)) })
 
   left-alone : (s : Source) → toList begun calls s ≡ map (single (itemsFrom s w)) (alone s w)
@@ -222,8 +221,8 @@ module _ (p m n : ℕ) (a b probe : List ℕ) (e : opens p m n (length a) (lengt
       ∙ ap (λ (v : World). bit (isSingle (itemsFrom s v) x && ltb (x .row) (placeOf (afterCall w o (Lone s) .world) s))) (lone-leaves w o s)
       ∙ ap (λ (i : ℕ). bit (isSingle (itemsFrom s w) x && ltb (x .row) i)) (done-place s w o k d) ∙ ap bit (passed-all (itemsFrom s w) x)
 
-  pub lones : Lones begun calls
-  lones = record {
+  holds : Lones begun calls
+  holds = record {
     once = λ s x. rw (tracks s .tells x) (half-le (isSingle (itemsFrom s w) x) _);
     lone = one-call;
     rounds = λ c s r h os k o f.
@@ -233,3 +232,6 @@ module _ (p m n : ℕ) (a b probe : List ℕ) (e : opens p m n (length a) (lengt
     others-same = others-heard w (record { written = _; sits = sits });
     lone-same = λ c s. lone-heard s w (record { settled = record { written = _; sits = sits }; closed = c });
   }
+
+pub lones : ForAnyCalls Lones
+lones = holds

@@ -1,9 +1,9 @@
--- What holds between calls holds after an accepted opening, and after every run of calls. By induction over the calls.
+-- What holds between calls holds after an accepted opening, and after every call. By induction over the calls.
 -- Assumes nothing.
 use mathlib.Core.Path.{_≡_, refl, sym, ap, _∙_, subst}
 use mathlib.Core.Bool.{Bool, true, false, cond}
 use mathlib.Core.List.{List, [], _∷_}
-use Prim.Native.Nat.{ℕ, zero, suc, _-_, _≤_, _<_}
+use Prim.Native.Nat.{ℕ, zero, suc, _≤_, _<_}
 use native.Mathlib.Omega.{arith}
 use lib.Dec.{leb·suc-zero}
 use lib.ListN.{length, length-replicate, getD, replicate}
@@ -16,10 +16,9 @@ use Rattle.sheets.specs.Layout.{Told, listNo}
 use Rattle.sheets.proofs.Noted.{list-none}
 use Rattle.calls.specs.Calls.{opens, fresh}
 use Rattle.calls.specs.Rounds.{Lent}
-use Rattle.calls.specs.Demand3.{run, opened, itemsOf, written}
+use Rattle.calls.specs.Demand3.{afterCalls, opened, itemsOf}
 use Rattle.calls.specs.Refusals.{sizesFit}
-use Rattle.calls.specs.Work.{world}
-use Rattle.calls.specs.World.{World, countOf, placeOf, rowsOf}
+use Rattle.calls.specs.World.{World, world, countOf, placeOf, rowsOf}
 use Rattle.calls.specs.declared.types.Why.the-variants.{BadSheet}
 use Rattle.calls.specs.declared.types.Answer.the-variants.{Opened, Refused}
 use Rattle.calls.specs.declared.types.Reply.{Reply}
@@ -98,6 +97,6 @@ no-places p m n a b probe h s = ap (λ (w : World). placeOf w s) (opened-fresh p
     go A = refl
     go B = refl
 
-pub sits-run : (w : World) (l : List Told) (cs : List Lent) → Sits w l → Sits (run w l cs .world) (run w l cs .written)
-sits-run w l [] g = g
-sits-run w l (c ∷ cs) g = sits-run _ _ cs (sits-call w l (c .out) g (c .call))
+pub sits-calls : (w : World) (l : List Told) (cs : List Lent) → Sits w l → Sits (afterCalls w l cs .world) (afterCalls w l cs .written)
+sits-calls w l [] g = g
+sits-calls w l (c ∷ cs) g = sits-calls _ _ cs (sits-call w l (c .out) g (c .call))

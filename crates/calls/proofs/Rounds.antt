@@ -13,7 +13,7 @@ use Rattle.stamps.specs.Counting.Laws.{tests}
 use Rattle.sheets.specs.Layout.{Told}
 use Rattle.sheets.proofs.Handing.{take-map}
 use Rattle.calls.specs.Calls.{After, afterCall}
-use Rattle.calls.specs.Demand3.{wrote, run}
+use Rattle.calls.specs.Demand3.{wrote, afterCalls}
 use Rattle.calls.specs.Refusals.{verdict, bothClosed, drainChecks, roomIn}
 use Rattle.calls.specs.Rounds.{again, Rooms, saying, Handed, ceil, sayingAt}
 use Rattle.calls.specs.World.{World}
@@ -107,13 +107,13 @@ module _ (c : Call) (more done : ℕ → Answer) (left : World → ℕ) (Holds :
       (let e : suc k * r ≡ k * r + r = suc-mul k r in rw e (omega arith))
 
   says-at : (r : ℕ) → 1 ≤ r → (o : List ℕ) → roomIn c (length o) ≡ r → (os : List (List ℕ)) → Rooms c r os → (w : World) (l : List Told) → Holds w
-      → afterCall (run w l (again c os) .world) o c .answer ≡ say r (left w) (length os)
+      → afterCall (afterCalls w l (again c os) .world) o c .answer ≡ say r (left w) (length os)
   says-at r h o e [] k w l g = gives w o g (rw e h) .says ∙ ap (λ (m : ℕ). saying more done m (left w)) e ∙ say-first r (left w)
   says-at r h o e (x ∷ os) k w l g = let b : 1 ≤ roomIn c (length x) = rw (k .0) h in
       says-at r h o e os (k .1) (afterCall w x c .world) (l ++ wrote (afterCall w x c)) (keeps w x g b)
       ∙ ap (λ (m : ℕ). say r m (length os)) (gives w x g b .rest ∙ ap (λ (m : ℕ). left w - m) (k .0)) ∙ say-next r (left w) (length os)
 
   pub rounds : (r : ℕ) → 1 ≤ r → (o : List ℕ) → roomIn c (length o) ≡ r → (os : List (List ℕ)) → Rooms c r os → (w : World) (l : List Told) → Holds w
-      → afterCall (run w l (again c os) .world) o c .answer ≡ sayingAt more done r (left w) (length os)
+      → afterCall (afterCalls w l (again c os) .world) o c .answer ≡ sayingAt more done r (left w) (length os)
   rounds r h o e os k w l g = says-at r h o e os k w l g
       ∙ ap (λ (u : Bool). cond u done more (min r (left w - length os * r))) (ceil-le (left w) r (suc (length os)) h)

@@ -26,8 +26,8 @@ use Rattle.sheets.specs.declared.lists.ProbeList.{ProbeList}
 use Rattle.sheets.proofs.Laws.{latest-none, list-entries, length-list, list-small, wanted-few, product-few, pairs-from-start}
 use Rattle.calls.specs.Calls.{After, after, runs, owed, drains, effect, settle, afterCall}
 use Rattle.calls.specs.Refusals.{verdict, idle, ran, portionChecks, runChecks, checks}
-use Rattle.calls.specs.Work.{world, Fits, Listed, worldFrom, jobFrom, taskOf, ranUpto, runSettled}
-use Rattle.calls.specs.World.{World, pick, countOf, rowsOf, sideOf, seenFrom, withCounts, withNext, note, move}
+use Rattle.calls.specs.Work.{Fits, Listed, worldFrom, jobFrom, taskOf, ranUpto, runSettled}
+use Rattle.calls.specs.World.{World, world, pick, countOf, rowsOf, sideOf, seenFrom, withCounts, withNext, note, move}
 use Rattle.calls.specs.declared.types.Session.{Session}
 use Rattle.calls.specs.declared.types.Answer.the-variants.{More, Done, Ran, Refused}
 use Rattle.calls.specs.declared.types.Why.{Why}

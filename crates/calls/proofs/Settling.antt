@@ -11,8 +11,8 @@ use Rattle.stamps.specs.declared.Source.{Source}
 use Rattle.sheets.specs.Rows.{Flushes}
 use Rattle.calls.specs.Calls.{After, after, effect, afterCall, evicts}
 use Rattle.calls.specs.Refusals.{Check, check, verdict, sessionFits, roomIn, checks}
-use Rattle.calls.specs.Work.{world, Fits, Rows, Clears}
-use Rattle.calls.specs.World.{World, sheetOf, countOf, withClock, withSheet, flush}
+use Rattle.calls.specs.Work.{Fits, Rows, Clears}
+use Rattle.calls.specs.World.{World, world, sheetOf, countOf, withClock, withSheet, flush}
 use Rattle.calls.specs.declared.types.Call.{Call}
 use Rattle.calls.specs.declared.types.Why.{Why}
 use Rattle.calls.specs.declared.types.Why.the-variants.{BadSheet}

@@ -15,7 +15,7 @@ use Rattle.sheets.specs.Pairs.{Pair, position, pairsFrom, tellAll, told, putFro
 use Rattle.sheets.specs.Rooms.{onward, putAll}
 use Rattle.sheets.specs.Rows.{portionRows, latest}
 use Rattle.sheets.specs.declared.pairs.Scope.the-variants.{All}
-use Rattle.calls.specs.World.{World, countOf, rowsOf, seenFrom, placeOf, itemsFrom, flush, store, note, shut, move, pass}
+use Rattle.calls.specs.World.{World, world, countOf, rowsOf, seenFrom, placeOf, itemsFrom, flush, store, note, shut, move, pass}
 use Rattle.calls.specs.Refusals.{verdict, sizesFit, roomFor, makeRoom, arrived, idle, ran, roomIn, checks}
 use Rattle.calls.specs.declared.types.Session.{Session}
 use Rattle.calls.specs.declared.types.Call.{Call}
@@ -36,6 +36,10 @@ pub record After : Type 0 where
 -- the three together
 abbrev pub after : Answer → World → List ℕ → After
 after n w o = record { answer = n; world = w; out = o }
+
+-- what a call hands back, with the sheets and the output as it leaves them
+abbrev pub leaves : Reply → List ℕ → List ℕ → List ℕ → List ℕ → After
+leaves r a b probe o = after (r .answer) (world (r .session) a b probe) o
 
 -- ---- what a call that is not refused does
 

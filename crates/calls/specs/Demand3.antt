@@ -1,5 +1,5 @@
 -- Demand 3: "For any order of calls after an opening, refused ones included, on untouched sheets". Its parts are the fields of `Demand3`;
--- proofs/Demand3.antt proves all of them for every run of calls.
+-- proofs/Demand3.antt proves `ForAnyCalls Demand3`.
 use mathlib.Core.Path.{_≡_}
 use mathlib.Core.Bool.{true, cond}
 use mathlib.Core.List.{List, [], _∷_, _++_, map}
@@ -20,14 +20,13 @@ use Rattle.calls.specs.Answers.{pairsOf, refused}
 use Rattle.calls.specs.Calls.{After, afterCall, opens}
 use Rattle.calls.specs.Refusals.{bothClosed}
 use Rattle.calls.specs.Rounds.{Lent, again, Rooms, Handed, sayingAt}
-use Rattle.calls.specs.Work.{same}
-use Rattle.calls.specs.World.{World, countOf, rowsOf, seenFrom}
+use Rattle.calls.specs.World.{World, same, countOf, rowsOf, seenFrom}
 use Rattle.calls.specs.declared.types.Call.{Call}
 use Rattle.calls.specs.declared.types.Call.the-variants.{Arrive, Evict, Run, Close, Drain, Lone}
 use Rattle.calls.specs.declared.types.Why.the-variants.{BadSheet}
-use Rattle.calls.specs.declared.types.Answer.the-variants.{More, Done, Refused}
+use Rattle.calls.specs.declared.types.Answer.the-variants.{Opened, More, Done, Refused}
 
--- ---- a run of calls
+-- ---- calls, one after the other
 
 -- the pairs that a call wrote, read back from its output
 abbrev pub wrote : After → List Told
@@ -39,13 +38,18 @@ pub record Moment : Type 0 where
   pub written : List Told
 
 -- each call is given the record and the sheets as the last one left them
-abbrev pub run : World → List Told → List Lent → Moment
-run w l [] = record { world = w; written = l }
-run w l (c ∷ cs) = let r = afterCall w (c .out) (c .call) in run (r .world) (l ++ wrote r) cs
+abbrev pub afterCalls : World → List Told → List Lent → Moment
+afterCalls w l [] = record { world = w; written = l }
+afterCalls w l (c ∷ cs) = let r = afterCall w (c .out) (c .call) in afterCalls (r .world) (l ++ wrote r) cs
 
 -- the box as the opening hands it over, with sheets of any content
 abbrev pub opened : ℕ → ℕ → ℕ → List ℕ → List ℕ → List ℕ → World
 opened p m n a b probe = record { session = opens p m n (length a) (length b) (length probe) .session; a = a; b = b; probe = probe }
+
+-- what is said of a box and the calls made on it holds "for any order of calls after an opening": for P, M, N and sheets that an opening accepts
+abbrev pub ForAnyCalls : (World → List Lent → Type 0) → Type 0
+ForAnyCalls Says =
+    (p m n : ℕ) (a b probe : List ℕ) → opens p m n (length a) (length b) (length probe) .answer ≡ Opened → (calls : List Lent) → Says (opened p m n a b probe) calls
 
 -- ---- the rows that were accepted
 
@@ -58,7 +62,7 @@ offered s (Close v) = []
 offered s Drain = []
 offered s (Lone v) = []
 
--- those of a run that were not refused, in their order
+-- what the calls of a list offered to it and the box did not refuse, in their order
 abbrev pub accepted : Source → World → List Lent → List Message
 accepted s w [] = []
 accepted s w (c ∷ cs) = let r = afterCall w (c .out) (c .call) in cond (refused (r .answer)) [] (offered s (c .call)) ++ accepted s (r .world) cs
@@ -73,7 +77,7 @@ itemsOf w s = values (λ i. rowsOf w s i .item) (countOf w s)
 abbrev pub pairOf : World → ℕ → ℕ → Told
 pairOf w i j = record { a = i; b = j; key = rowsOf w A i .item .key }
 
--- a pair of accepted rows that match, with their key
+-- how often a pair is owed in the end: once if it is of accepted rows that match, with their key, and else never
 abbrev pub owes : World → Told → ℕ
 owes w x = bit (isPair (seenFrom A w) x)
 
@@ -81,16 +85,16 @@ owes w x = bit (isPair (seenFrom A w) x)
 abbrev pub left : World → List Told → List Told
 left w l = missing (seenFrom A w) l
 
--- ---- the demand, at a moment of a run
+-- ---- the demand, at the moment after any list of calls
 
 module _ (start : World) (calls : List Lent) where
   -- the box after these calls
   abbrev pub now : World
-  now = run start [] calls .world
+  now = afterCalls start [] calls .world
 
   -- and all that they wrote
   abbrev pub written : List Told
-  written = run start [] calls .written
+  written = afterCalls start [] calls .written
 
   pub record Demand3 : Type 0 where
     -- row i of a source is of the i-th message that was accepted from it
@@ -103,12 +107,12 @@ module _ (start : World) (calls : List Lent) where
     -- b. "two matching rows in memory together are out once the later one is accepted"
     pub prompt : (i j : ℕ) → i < countOf now A → j < countOf now B → inMemory (rowsOf now A i) ≡ true → inMemory (rowsOf now B j) ≡ true
         → itemsMatch (rowsOf now A i .item) (rowsOf now B j .item) ≡ true → times (pairOf now i j) written ≡ 1
-    -- c. "with both feeds closed and n matching pairs unwritten, a drain with room r ≥ 1 writes exactly min(r, n)"
+    -- c. "with both feeds closed and n matching pairs unwritten, a drain with room r ≥ 1 writes exactly min(r, n) and says Done exactly when none is left"
     pub drain : bothClosed (now .session) ≡ true → (o : List ℕ) → 1 ≤ roomOf (length o) → let r = afterCall now o Drain in
         Handed More Done (left now written) (roomOf (length o)) (wrote r) (r .answer)
     -- d. "with room r each time Done comes at drain number ceil(n / r), at the first if n is 0"
     pub drains : bothClosed (now .session) ≡ true → (r : ℕ) → 1 ≤ r → (os : List (List ℕ)) → Rooms Drain r os → (o : List ℕ) → roomOf (length o) ≡ r
-        → afterCall (run now written (again Drain os) .world) o Drain .answer ≡ sayingAt More Done r (length (left now written)) (length os)
+        → afterCall (afterCalls now written (again Drain os) .world) o Drain .answer ≡ sayingAt More Done r (length (left now written)) (length os)
     -- e. after Done, the pairs written are the matching pairs of the accepted rows, each once
     pub whole : (o : List ℕ) (n : ℕ) → afterCall now o Drain .answer ≡ Done n → (x : Told) → times x (written ++ wrote (afterCall now o Drain)) ≡ owes now x
     -- and no call is ever refused as BadSheet

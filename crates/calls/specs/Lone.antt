@@ -1,5 +1,5 @@
--- Rows without partner, over any order of calls after an opening. The parts are the fields of `Lones`; proofs/Lone.antt proves all of them for
--- every run of calls.
+-- Rows without partner, over any order of calls after an opening. The parts are the fields of `Lones`; proofs/Lone.antt proves
+-- `ForAnyCalls Lones`.
 use mathlib.Core.Path.{_≡_}
 use mathlib.Core.Bool.{Bool, true, false, cond, not, _||_}
 use mathlib.Core.List.{List, [], _∷_, _++_}
@@ -13,11 +13,10 @@ use Rattle.sheets.specs.Lones.{isSingle, listings, unlisted}
 use Rattle.sheets.specs.Rooms.{readAll}
 use Rattle.calls.specs.Answers.{singlesOf}
 use Rattle.calls.specs.Calls.{After, afterCall}
-use Rattle.calls.specs.Demand3.{run, now}
+use Rattle.calls.specs.Demand3.{afterCalls, now}
 use Rattle.calls.specs.Refusals.{bothClosed}
 use Rattle.calls.specs.Rounds.{Lent, again, Rooms, Handed, sayingAt}
-use Rattle.calls.specs.Work.{same}
-use Rattle.calls.specs.World.{World, itemsFrom}
+use Rattle.calls.specs.World.{World, same, itemsFrom}
 use Rattle.calls.specs.declared.types.Call.{Call}
 use Rattle.calls.specs.declared.types.Call.the-variants.{Arrive, Evict, Run, Close, Drain, Lone}
 use Rattle.calls.specs.declared.types.Answer.{Answer}
@@ -38,7 +37,7 @@ asks s (Lone v) = same v s
 abbrev pub named : After → List Single
 named r = readAll singleAt (r .out) 0 (singlesOf (r .answer))
 
--- the rows of s that a run of calls listed, in their order
+-- the rows of s that calls listed, in their order
 abbrev pub listed : Source → World → List Lent → List Single
 listed s w [] = []
 listed s w (c ∷ cs) = let r = afterCall w (c .out) (c .call) in cond (asks s (c .call)) (named r) [] ++ listed s (r .world) cs
@@ -57,7 +56,7 @@ pub record Heard : Type 0 where
 abbrev pub heardOf : After → Heard
 heardOf r = record { answer = r .answer; out = r .out; a = r .world .a; b = r .world .b; probe = r .world .probe }
 
--- of those calls of a run that pass a test
+-- of those calls of a list that pass a test
 abbrev pub heard : (Call → Bool) → World → List Lent → List Heard
 heard u w [] = []
 heard u w (c ∷ cs) = let r = afterCall w (c .out) (c .call) in cond (u (c .call)) (heardOf r ∷ []) [] ++ heard u (r .world) cs
@@ -70,7 +69,7 @@ only u = keep (λ c. u (c .call))
 abbrev pub others : Call → Bool
 others c = not (asks A c || asks B c)
 
--- ---- what holds at a moment of a run
+-- ---- what holds at the moment after any list of calls
 
 module _ (start : World) (calls : List Lent) where
   -- the box after these calls
@@ -89,7 +88,7 @@ module _ (start : World) (calls : List Lent) where
         Handed MoreLone DoneLone (toList s) (singleRoom (length o)) (named r) (r .answer)
     -- "at call number ceil(n / r)"
     pub rounds : bothClosed (box .session) ≡ true → (s : Source) (r : ℕ) → 1 ≤ r → (os : List (List ℕ)) → Rooms (Lone s) r os → (o : List ℕ) → singleRoom (length o) ≡ r
-        → afterCall (run box [] (again (Lone s) os) .world) o (Lone s) .answer ≡ sayingAt MoreLone DoneLone r (length (toList s)) (length os)
+        → afterCall (afterCalls box [] (again (Lone s) os) .world) o (Lone s) .answer ≡ sayingAt MoreLone DoneLone r (length (toList s)) (length os)
     -- "after Done the rows listed are exactly those without partner"
     pub whole : (s : Source) (o : List ℕ) (n : ℕ) → afterCall box o (Lone s) .answer ≡ DoneLone n
         → (x : Single) → listings x (listed s start calls ++ named (afterCall box o (Lone s))) ≡ bit (isSingle (itemsFrom s box) x)

@@ -1,12 +1,11 @@
 -- What the calls' workers promise each other: numbers and words, whatever the sheets that they are not lent hold.
 use mathlib.Core.Path.{_≡_}
-use mathlib.Core.Bool.{Bool, true, false, cond}
+use mathlib.Core.Bool.{cond}
 use mathlib.Core.List.{List}
 use Prim.Native.Nat.{ℕ, _+_, _*_, _≤_, _<_}
 use lib.Dec.{ltb, leb}
 use lib.ListN.{length, getD}
 use Rattle.stamps.specs.declared.Source.{Source}
-use Rattle.stamps.specs.declared.Source.the-variants.{A, B}
 use Rattle.stamps.specs.declared.Item.{Item}
 use Rattle.stamps.specs.declared.Row.{Row}
 use Rattle.stamps.specs.Sources.{other}
@@ -16,28 +15,19 @@ use Rattle.sheets.specs.declared.pairs.Job.{Job}
 use Rattle.sheets.specs.declared.pairs.Scope.{Scope}
 use Rattle.sheets.specs.Rows.{portionRows, latest, flushed}
 use Rattle.calls.specs.Calls.{After, after, runs, settle}
-use Rattle.calls.specs.World.{World, pick, rowsOf, countOf, sideOf, seenFrom, flush, note}
+use Rattle.calls.specs.World.{World, world, pick, same, rowsOf, countOf, sideOf, seenFrom, flush, note}
 use Rattle.calls.specs.Refusals.{verdict, idle, ran, runChecks}
 use Rattle.calls.specs.declared.types.Why.the-variants.{RoomShort}
 use Rattle.calls.specs.declared.types.Answer.the-variants.{Ran, Refused}
 use Rattle.calls.specs.declared.running.Task.{Task}
 use Rattle.calls.specs.declared.running.Task.the-variants.{Idle, Crowded, Upto}
 use Rattle.calls.specs.declared.types.Session.{Session}
-use Rattle.calls.specs.declared.types.Reply.{Reply}
 use Rattle.calls.specs.declared.refusals.Verdict.{Verdict}
 use Rattle.calls.specs.declared.refusals.Verdict.the-variants.{Good, No}
 use Rattle.calls.specs.declared.arriving.Room.{Room}
 use Rattle.calls.specs.declared.arriving.Room.the-variants.{Enough, Flush}
 use Rattle.calls.specs.declared.arriving.Admission.{Admission}
 use Rattle.calls.specs.declared.arriving.Admission.the-variants as admission
-
--- a record and sheets
-abbrev pub world : Session → List ℕ → List ℕ → List ℕ → World
-world t a b probe = record { session = t; a = a; b = b; probe = probe }
-
--- what a call hands back, with the sheets and the output as it leaves them
-abbrev pub leaves : Reply → List ℕ → List ℕ → List ℕ → List ℕ → After
-leaves r a b probe o = after (r .answer) (world (r .session) a b probe) o
 
 -- what number 1 has seen to
 pub record Sizes (p m n a b probe : ℕ) : Type 0 where
@@ -80,13 +70,6 @@ pub record Clears (s : Source) (q : ℕ) (t : Session) (a b : List ℕ) (t′ : 
 abbrev pub admitted : Verdict → Item → Admission
 admitted Good item = admission.Take item
 admitted (No y) item = admission.Deny y
-
--- one and the same source
-abbrev pub same : Source → Source → Bool
-same A A = true
-same A B = false
-same B A = false
-same B B = true
 
 -- the rows of source s once there is room
 abbrev pub rowsAfter : Room → Source → ℕ → ℕ → (ℕ → Row) → ℕ → Row

@@ -113,14 +113,11 @@ run-is : run fedStage ≡ runStage
 unfolding run inRange itemOf itemsMatch partOf alive presentAt together covers used doneBefore rowAt putRow entryAt putEntry pairAt putPair entries listOf probedAt lay largestPart victim arrivalPairs wanted wantedPairs pairsFrom flush store note shut move verdict sessionFits roomFor checks joins arrives evicts runs drains effect afterCall ask play
 run-is = refl
 
-drained-answers : drained runStage .answers ≡ runStage .answers ++ (Shut ∷ Shut ∷ More 1 ∷ Done 1 ∷ [])
+-- and after the drains: four answers and two pairs more, and no word of the sheets changed
+drained-is : (drained runStage .answers ≡ runStage .answers ++ (Shut ∷ Shut ∷ More 1 ∷ Done 1 ∷ []))
+    × (drained runStage .pairs ≡ runStage .pairs ++ (told 2 0 12 ∷ told 2 2 12 ∷ []))
+    × (drained runStage .world .a ≡ runStage .world .a)
+    × (drained runStage .world .b ≡ runStage .world .b)
+    × (drained runStage .world .probe ≡ runStage .world .probe)
 unfolding drained inRange itemOf itemsMatch partOf alive presentAt together covers used doneBefore rowAt putRow entryAt putEntry pairAt putPair entries listOf probedAt lay largestPart victim arrivalPairs wanted wantedPairs pairsFrom flush store note shut move verdict sessionFits roomFor checks joins arrives evicts runs drains effect afterCall ask play
-drained-answers = refl
-
-drained-pairs : drained runStage .pairs ≡ runStage .pairs ++ (told 2 0 12 ∷ told 2 2 12 ∷ [])
-unfolding drained inRange itemOf itemsMatch partOf alive presentAt together covers used doneBefore rowAt putRow entryAt putEntry pairAt putPair entries listOf probedAt lay largestPart victim arrivalPairs wanted wantedPairs pairsFrom flush store note shut move verdict sessionFits roomFor checks joins arrives evicts runs drains effect afterCall ask play
-drained-pairs = refl
-
-drained-sheets : (drained runStage .world .a ≡ runStage .world .a) × (drained runStage .world .b ≡ runStage .world .b) × (drained runStage .world .probe ≡ runStage .world .probe)
-unfolding drained inRange itemOf itemsMatch partOf alive presentAt together covers used doneBefore rowAt putRow entryAt putEntry pairAt putPair entries listOf probedAt lay largestPart victim arrivalPairs wanted wantedPairs pairsFrom flush store note shut move verdict sessionFits roomFor checks joins arrives evicts runs drains effect afterCall ask play
-drained-sheets = (refl, refl, refl)
+drained-is = (refl, refl, refl, refl, refl)

@@ -1,5 +1,5 @@
 -- The box in words: a session record, two row sheets and a probe sheet, and what may change in them.
-use mathlib.Core.Bool.{Bool, true}
+use mathlib.Core.Bool.{Bool, true, false}
 use mathlib.Core.List.{List}
 use Prim.Native.Nat.{ℕ, suc, _+_}
 use lib.ListN.{getD, set}
@@ -24,12 +24,23 @@ pub record World : Type 0 where
   pub b : List ℕ
   pub probe : List ℕ
 
+-- a record and sheets
+abbrev pub world : Session → List ℕ → List ℕ → List ℕ → World
+world t a b probe = record { session = t; a = a; b = b; probe = probe }
+
 -- ---- one source of the two
 
 -- x for A, y for B
 abbrev pub pick : {X : Type 0} → Source → X → X → X
 pick A x y = x
 pick B x y = y
+
+-- one and the same source
+abbrev pub same : Source → Source → Bool
+same A A = true
+same A B = false
+same B A = false
+same B B = true
 
 -- its part of the record
 abbrev pub feedOf : World → Source → Feed

@@ -30,10 +30,10 @@ ghost use Rattle.stamps.specs.Counting.{tally};
 ghost use Rattle.sheets.specs.Layout.{rowsNeed, pairsNeed, rowAt};
 ghost use Rattle.sheets.specs.Pairs.{met, tellAll, putFrom};
 ghost use Rattle.calls.specs.declared.types.Call.the-variants.{Arrive};
-ghost use Rattle.calls.specs.Calls.{joins, afterCall};
+ghost use Rattle.calls.specs.Calls.{leaves, joins, afterCall};
 ghost use Rattle.calls.specs.Refusals.{verdict, rowChecks, roomFor, makeRoom, arrived};
-ghost use Rattle.calls.specs.Work.{world, leaves, Rows, admitted, same, rowsAfter, Space};
-ghost use Rattle.calls.specs.World.{rowsOf, pick, store};
+ghost use Rattle.calls.specs.Work.{Rows, admitted, rowsAfter, Space};
+ghost use Rattle.calls.specs.World.{world, same, rowsOf, pick, store};
 
 // What has to be flushed for one more row.
 pub enum Room {

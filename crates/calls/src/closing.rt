@@ -12,8 +12,8 @@ ghost use mathlib.Core.Path.{_≡_};
 ghost use mathlib.Core.List.{List};
 ghost use Prim.Native.Nat.{ℕ};
 ghost use Rattle.calls.specs.declared.types.Call.the-variants.{Close};
-ghost use Rattle.calls.specs.Calls.{afterCall};
-ghost use Rattle.calls.specs.Work.{world, leaves};
+ghost use Rattle.calls.specs.Calls.{leaves, afterCall};
+ghost use Rattle.calls.specs.World.{world};
 
 pub fn close(session: Session, source: Source, a: &[u32], b: &[u32], probe: &[u32]) -> Reply
     ensures { λ r. ⌜ ((out : List ℕ) → leaves r (now (a .entry)) (now (b .entry)) (now (probe .entry)) out ≡ afterCall (world session (now (a .entry)) (now (b .entry)) (now (probe .entry))) out (Close source)) ⌝ }

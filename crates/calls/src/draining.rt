@@ -13,8 +13,9 @@ ghost use mathlib.Core.Path.{_≡_};
 ghost use lib.ListN.{length};
 ghost use Rattle.sheets.specs.Layout.{roomOf};
 ghost use Rattle.calls.specs.declared.types.Call.the-variants.{Drain};
-ghost use Rattle.calls.specs.Calls.{drains, afterCall};
-ghost use Rattle.calls.specs.Work.{world, leaves, Fits};
+ghost use Rattle.calls.specs.Calls.{leaves, drains, afterCall};
+ghost use Rattle.calls.specs.Work.{Fits};
+ghost use Rattle.calls.specs.World.{world};
 
 // A drain that is not refused.
 fn write_owed(

@@ -11,8 +11,9 @@ ghost use mathlib.Core.List.{List};
 ghost use Prim.Native.Nat.{ℕ};
 ghost use lib.ListN.{length};
 ghost use Rattle.calls.specs.declared.types.Call.the-variants.{Evict};
-ghost use Rattle.calls.specs.Calls.{afterCall};
-ghost use Rattle.calls.specs.Work.{world, leaves, Rows, Clears};
+ghost use Rattle.calls.specs.Calls.{leaves, afterCall};
+ghost use Rattle.calls.specs.Work.{Rows, Clears};
+ghost use Rattle.calls.specs.World.{world};
 
 // The session after a flush, and the rows flushed.
 pub struct Cleared {

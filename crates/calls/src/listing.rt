@@ -16,9 +16,9 @@ ghost use Prim.Native.Nat.{ℕ, _≤_};
 ghost use lib.ListN.{length};
 ghost use Rattle.sheets.specs.Layout.{singleRoom};
 ghost use Rattle.calls.specs.declared.types.Call.the-variants.{Lone};
-ghost use Rattle.calls.specs.Calls.{after, lists, afterCall};
-ghost use Rattle.calls.specs.Work.{world, leaves, worldFrom, Rows};
-ghost use Rattle.calls.specs.World.{pick};
+ghost use Rattle.calls.specs.Calls.{after, leaves, lists, afterCall};
+ghost use Rattle.calls.specs.Work.{worldFrom, Rows};
+ghost use Rattle.calls.specs.World.{world, pick};
 
 // A lone call that is not refused, seen from its source.
 fn write_alone(

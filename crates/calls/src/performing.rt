@@ -9,8 +9,8 @@ use crate::types::Call;
 use crate::types::Reply;
 use crate::types::Session;
 ghost use mathlib.Core.Path.{_≡_};
-ghost use Rattle.calls.specs.Calls.{afterCall};
-ghost use Rattle.calls.specs.Work.{world, leaves};
+ghost use Rattle.calls.specs.Calls.{leaves, afterCall};
+ghost use Rattle.calls.specs.World.{world};
 
 pub fn perform(
     session: Session,

@@ -22,9 +22,9 @@ ghost use mathlib.Core.List.{List};
 ghost use Prim.Native.Nat.{ℕ, _<_};
 ghost use lib.ListN.{length};
 ghost use Rattle.calls.specs.declared.types.Call.the-variants.{Run};
-ghost use Rattle.calls.specs.Calls.{after, afterCall};
-ghost use Rattle.calls.specs.Work.{world, leaves, worldFrom, taskOf, ranUpto, runSettled, Fits, Listed};
-ghost use Rattle.calls.specs.World.{pick, note};
+ghost use Rattle.calls.specs.Calls.{after, leaves, afterCall};
+ghost use Rattle.calls.specs.Work.{worldFrom, taskOf, ranUpto, runSettled, Fits, Listed};
+ghost use Rattle.calls.specs.World.{world, pick, note};
 
 // What a run has to do: nothing, too much for its list, or the spooled rows up to a DTS.
 pub enum Task {

@@ -9,7 +9,7 @@ use lib.ListN.{length, take, length-take}
 use Rattle.sheets.specs.Layout.{pairsNeed}
 use Rattle.calls.specs.Answers.{writtenOf, refused}
 use Rattle.calls.specs.Calls.{opens, afterCall}
-use Rattle.calls.specs.Work.{world}
+use Rattle.calls.specs.World.{world}
 use Rattle.calls.specs.Refusals.{roomIn}
 use Rattle.calls.specs.declared.types.Call.{Call}
 use Rattle.calls.specs.declared.types.Call.the-variants as call

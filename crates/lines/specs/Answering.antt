@@ -7,7 +7,7 @@ use lib.ListN.{length, take, drop}
 use Rattle.sheets.specs.Layout.{pairsNeed, singlesNeed}
 use Rattle.calls.specs.Answers.{refused}
 use Rattle.calls.specs.Calls.{After, fresh, opens, afterCall}
-use Rattle.calls.specs.Work.{world}
+use Rattle.calls.specs.World.{world}
 use Rattle.calls.specs.declared.types.Answer.the-variants as answer
 use Rattle.calls.specs.declared.types.Call.{Call}
 use Rattle.calls.specs.declared.types.Call.the-variants as call

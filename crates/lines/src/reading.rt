@@ -14,6 +14,7 @@ ghost use mathlib.Core.Path.{_≡_};
 ghost use Rattle.lines.specs.Fields.{fields};
 ghost use Rattle.lines.specs.Reading.{numberAt, sideAt, threeOf, startLine, arriveLine, sourcedOf, evictLine, runLine, closeLine, drainLine, loneLine, readLine};
 
+// The bytes of the longest line that is read.
 const LONGEST: usize = 80;
 
 // The most pairs or rows that a line may name as room; the output has room for so many pairs.

@@ -17,8 +17,8 @@ use Rattle.stamps.specs.Counting.{bit, tally, upTo}
 use Rattle.stamps.specs.Counting.Laws.{tests, both, and-cong, tally-cong, tally-mono, le-top, top-le}
 use Rattle.stamps.specs.Keys.{itemsMatch, partOf}
 use Rattle.stamps.specs.Keys.Laws.{match-comm}
-use Rattle.stamps.specs.Stamps.{inMemory, doneBefore}
-use Rattle.stamps.specs.Stamps.Laws.{Below, alive-now, stamp, Kept, kept-refl, kept-stamp, done-kept, done-swap, done-new, done-entry}
+use Rattle.stamps.specs.Stamps.{inMemory, stamp, doneBefore}
+use Rattle.stamps.specs.Stamps.Laws.{Below, alive-now, Kept, kept-refl, kept-stamp, done-kept, done-swap, done-new, done-entry}
 use Rattle.sheets.specs.Layout.{Told}
 use Rattle.sheets.specs.Joins.{inside, matches, done, times}
 use Rattle.sheets.specs.Pairs.{Side, Table, Pair, rowA, rowB, met, arrivalPairs, wanted, wantedPairs, tellAll, told}

@@ -18,8 +18,7 @@ use Rattle.stamps.specs.Counting.{bit, tally, span, keep, upTo}
 use Rattle.stamps.specs.Counting.Laws.{tests, one-more, eqb-ne, tally-le, length-keep, length-span}
 use Rattle.stamps.specs.Keys.{itemsMatch, partOf}
 use Rattle.stamps.specs.Keys.Laws.{match-part}
-use Rattle.stamps.specs.Stamps.{inMemory}
-use Rattle.stamps.specs.Stamps.Laws.{stamp}
+use Rattle.stamps.specs.Stamps.{inMemory, stamp}
 use Rattle.sheets.specs.Layout.{rowsNeed, rowAt, putRow, probeNeed, listNo, listNeed, entryAt, putEntry, pairsNeed, pairAt, putPair, singlesNeed, singleAt, putSingle}
 use Rattle.sheets.specs.Layout.Laws.{length-putRow, row-same, row-other, row-beyond, entry-same, entry-other, length-putPair, pair-same, pair-other, length-putSingle, single-same, single-other}
 use Rattle.sheets.specs.Lists.{entries, listOf, probedAt}

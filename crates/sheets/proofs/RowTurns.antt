@@ -13,8 +13,7 @@ use Rattle.stamps.specs.declared.Row.{Row}
 use Rattle.stamps.specs.Counting.{tally, values}
 use Rattle.stamps.specs.Counting.Laws.{tally-le, values-at, values-cong, set-values}
 use Rattle.stamps.specs.Keys.{partOf}
-use Rattle.stamps.specs.Stamps.{inMemory}
-use Rattle.stamps.specs.Stamps.Laws.{stamp}
+use Rattle.stamps.specs.Stamps.{inMemory, stamp}
 use Rattle.sheets.specs.Layout.{rowAt, putRow}
 use Rattle.sheets.specs.Layout.Laws.{length-putRow, row-again}
 use Rattle.sheets.specs.Rows.{hot, spooled, portionRows, latest, flushed, lay, firstLargest, largestPart}

@@ -138,7 +138,7 @@ putFrom = putAll putPair
 abbrev pub pairsAt : List ℕ → ℕ → ℕ → List Told
 pairsAt = readAll pairAt
 
--- ---- a job: what a run or a drain works on
+-- ---- what the functions promise: a job is what a run or a drain works on
 
 -- own is the sheet of the job's source, and stands for A; facing is the other's
 abbrev pub tableOf : Job → List ℕ → List ℕ → List ℕ → List ℕ → Table

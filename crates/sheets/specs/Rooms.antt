@@ -36,7 +36,9 @@ abbrev pub readAll : {Y : Type 0} → (List ℕ → ℕ → Y) → List ℕ → 
 readAll at o w zero = []
 readAll at o w (suc n) = at o w ∷ readAll at o (suc w) n
 
--- ---- what a walk does with xs, which is left from a position on: as many as there is room for are written, and the position moves
+-- ---- what the functions promise
+
+-- what a walk does with xs, which is left from a position on: as many as there is room for are written, and the position moves
 pub record HandsOut {X Y : Type 0} (place : X → ℕ) (end : ℕ) (tell : X → Y) (put : ℕ → Y → List ℕ → List ℕ) (xs : List X) (from room : ℕ) (o o′ : List ℕ) (r : Written) : Type 0 where
   pub count : r .count ≡ length (take room xs)
   pub more : r .more ≡ ltb room (length xs)

@@ -9,8 +9,7 @@ use Rattle.stamps.specs.declared.Source.the-variants.{A, B}
 use Rattle.stamps.specs.declared.Row.{Row}
 use Rattle.stamps.specs.Counting.{tally, top}
 use Rattle.stamps.specs.Keys.{partOf}
-use Rattle.stamps.specs.Stamps.{inMemory}
-use Rattle.stamps.specs.Stamps.Laws.{stamp}
+use Rattle.stamps.specs.Stamps.{inMemory, stamp}
 use Rattle.sheets.specs.Layout.{rowAt, putRow}
 use Rattle.sheets.specs.declared.rows.Victim.{Victim}
 
@@ -64,6 +63,8 @@ victim parts f n g m =
     cond (ltb (memoryRows f n) (memoryRows g m))
     (record { source = B; part = largestPart parts g m })
     (record { source = A; part = largestPart parts f n })
+
+-- ---- what the functions promise
 
 -- what a flush answers and leaves
 pub record Flushes (parts q clock n : ℕ) (l : List ℕ) (r : ℕ) (l′ : List ℕ) : Type 0 where

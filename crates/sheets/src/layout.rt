@@ -6,18 +6,23 @@ use stamps::Source;
 ghost use mathlib.Core.Path.{_≡_};
 ghost use Prim.Native.Nat.{_+_, _≤_, _<_};
 ghost use lib.ListN.{length};
-ghost use Rattle.stamps.specs.Stamps.Laws.{stamp};
+ghost use Rattle.stamps.specs.Stamps.{stamp};
 ghost use Rattle.sheets.specs.Layout.{rowsNeed, probeNeed, roomOf, rowAt, putRow, listNo, listNeed, entryAt, putEntry, pairsNeed, putPair, singlesNeed, singleRoom, putSingle};
 ghost use Rattle.sheets.specs.Pairs.{tell};
 
+// The words of a row: its key, ATS and DTS.
 pub const ROW: usize = 3;
 
+// Of an entry: DTS-last and ProbeTS.
 const ENTRY: usize = 2;
 
+// Of a list, which has 32 entries.
 pub const LIST: usize = 64;
 
+// Of a pair: its row of A, its row of B and their key.
 pub const PAIR: usize = 3;
 
+// Of a row by itself, as lone calls write it: its number and key.
 pub const SINGLE: usize = 2;
 
 // The words that so many rows take.

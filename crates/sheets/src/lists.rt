@@ -16,6 +16,7 @@ pub struct ProbeList {
     pub size: usize,
 }
 
+// As an argument a number is known to fit its type, where as an element of an array it is not.
 fn wide(x: u32) -> usize
     ensures { λ r. ⌜ r ≡ x ⌝ }
 {

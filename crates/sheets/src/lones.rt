@@ -3,7 +3,6 @@ use crate::layout::item_at;
 use crate::layout::put_single;
 use crate::pairs::next_match;
 use crate::rooms::Written;
-ghost use mathlib.Core.Path.{_≡_};
 ghost use Prim.Native.Nat.{_≤_, _<_};
 ghost use lib.ListN.{length};
 ghost use Rattle.sheets.specs.Layout.{rowsNeed, singlesNeed};

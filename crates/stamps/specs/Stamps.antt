@@ -13,6 +13,10 @@ pub mod Laws
 abbrev pub inMemory : Row → Bool
 inMemory r = eqb (r .dts) 0
 
+-- the row with its DTS set
+abbrev pub stamp : ℕ → Row → Row
+stamp t r = record { item = r .item; ats = r .ats; dts = t }
+
 -- not yet flushed when the clock stood at t: leaving at the very stamp t counts as having left
 unfoldable pub alive : ℕ → Row → Bool
 alive t r = inMemory r || ltb t (r .dts)

@@ -86,13 +86,13 @@ pub fn part_of(parts: u32, item: Item) -> u32
 }
 
 // A row with these stamps was not yet flushed when the clock stood at t.
-pub fn alive_at(t: u32, row: Row) -> bool
+fn alive_at(t: u32, row: Row) -> bool
     ensures { λ r. ⌜ r ≡ alive t row ⌝ }
 {
     (row.dts == 0) | (t < row.dts)
 }
 
-pub fn present_at(t: u32, row: Row) -> bool
+fn present_at(t: u32, row: Row) -> bool
     ensures { λ r. ⌜ r ≡ presentAt t row ⌝ }
 {
     (row.ats <= t) & alive_at(t, row)

@@ -8,7 +8,7 @@ use lib.ListN.{getD, set}
 use lib.Seq.{set-getD}
 use Rattle.stamps.specs.declared.Row.{Row}
 use Rattle.stamps.specs.declared.Entry.{Entry}
-use Rattle.stamps.specs.Stamps.Laws.{stamp}
+use Rattle.stamps.specs.Stamps.{stamp}
 use Rattle.sheets.specs.Layout.{rowAt, putRow, entryAt, putEntry, Told, putPair, Single, putSingle}
 
 pub rowAt-is : (l : List ℕ) (r : ℕ)

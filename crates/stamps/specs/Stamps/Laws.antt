@@ -8,7 +8,7 @@ use native.Mathlib.Omega.{arith}
 use borrow.Author.Tests.{lt-ltb, le-ltb, lt-leb, le-leb}
 use Rattle.stamps.specs.declared.Row.{Row}
 use Rattle.stamps.specs.declared.Entry.{Entry}
-use Rattle.stamps.specs.Stamps.{inMemory, alive, presentAt, hadLeftWhen, together, covers, used, doneBefore}
+use Rattle.stamps.specs.Stamps.{inMemory, stamp, alive, presentAt, hadLeftWhen, together, covers, used, doneBefore}
 use Rattle.stamps.specs.Stamps.Meaning.{figure-is-rule}
 
 -- every stamp of a list is at most c
@@ -58,10 +58,6 @@ pub record Kept (c : ℕ) (r r′ : Row) : Type 0 where
 
 pub kept-refl : (c : ℕ) (r : Row) → Kept c r r
 kept-refl c r = record { same-item = refl; same-ats = refl; same-alive = λ t h. refl }
-
--- the row with its DTS set
-abbrev pub stamp : ℕ → Row → Row
-stamp t r = record { item = r .item; ats = r .ats; dts = t }
 
 pub kept-stamp : (c t : ℕ) (r : Row) → inMemory r ≡ true → c < t → Kept c r (stamp t r)
 unfolding alive

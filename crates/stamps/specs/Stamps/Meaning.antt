@@ -27,6 +27,7 @@ covers-is e x y = refl
 
 -- ---- figure 5 of the report and rule 1 of document 01
 
+-- at most is not above
 not-above : (m n : ℕ) → leb m n ≡ not (ltb n m)
 not-above m n = go (ltb n m) refl
   where
@@ -34,6 +35,7 @@ not-above m n = go (ltb n m) refl
     go true e = lt-leb m n (ltb-true n m e)
     go false e = le-leb m n (ltb-false n m e)
 
+-- not one of the two failed: both hold
 neither : (u v : Bool) → not (not u || not v) ≡ (v && u)
 neither true true = refl
 neither true false = refl

@@ -4,7 +4,7 @@ use borrow.Author.Needs.{needs}
 use mathlib.Core.Path.{ap}
 use native.Mathlib.Omega.{arith}
 use Rattle.stamps.specs.declared.Source.the-variants.{A, B}
-use Rattle.calls.specs.Work.{world}
+use Rattle.calls.specs.World.{world}
 use Rattle.calls.proofs.Arrivals.{stored, rows-few}
 use Rattle.calls.specs.declared.types.Feed.{Feed}
 use Rattle.calls.proofs.arriving.store_row.Statement.{statement}

@@ -2,7 +2,7 @@
 -- Assumes nothing.
 use borrow.Author.Needs.{needs}
 use Rattle.stamps.specs.declared.Source.the-variants.{A, B}
-use Rattle.calls.specs.Work.{world}
+use Rattle.calls.specs.World.{world}
 use Rattle.calls.proofs.Settling.{flush-is}
 use Rattle.calls.proofs.evicting.clear.Statement.{statement}
 use Rattle.calls.proofs.evicting.clear.Tie as tie

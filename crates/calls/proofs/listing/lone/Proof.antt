@@ -5,7 +5,7 @@ use mathlib.Core.Path.{sym, _∙_}
 use Rattle.stamps.specs.declared.Source.the-variants.{A, B}
 use Rattle.calls.specs.Calls.{effect}
 use Rattle.calls.specs.Refusals.{checks}
-use Rattle.calls.specs.Work.{world}
+use Rattle.calls.specs.World.{world}
 use Rattle.calls.specs.declared.types.Call.the-variants.{Lone}
 use Rattle.calls.proofs.Settling.{settle-no, settle-good, good-fits, good-rows}
 use Rattle.calls.proofs.Singles.{place-fits}
