@@ -46,10 +46,6 @@ lonesFrom k t = onFrom number k (lones t)
 abbrev pub single : Items → ℕ → Single
 single t i = record { row = i; key = t .item i .key }
 
--- as many of the rows as there is room for are written; if none remains, the position becomes the row count
-abbrev pub Lists : Items → List ℕ → ℕ → ℕ → List ℕ → List ℕ → Written → Type 0
-Lists t = HandsOut number (t .rows) (single t) putSingle
-
 -- an accepted row without partner, with its key
 abbrev pub isSingle : Items → Single → Bool
 isSingle t x = ltb (x .row) (t .rows) && (isLone t (x .row) && eqb (x .key) (t .item (x .row) .key))
@@ -65,3 +61,9 @@ listings = count sameSingle
 -- the rows without partner that a list leaves out
 unfoldable pub unlisted : Items → List Single → List Single
 unlisted t l = missingIn sameSingle l (map (single t) (lones t))
+
+-- ---- what the functions promise
+
+-- as many of the rows as there is room for are written; if none remains, the position becomes the row count
+abbrev pub Lists : Items → List ℕ → ℕ → ℕ → List ℕ → List ℕ → Written → Type 0
+Lists t = HandsOut number (t .rows) (single t) putSingle

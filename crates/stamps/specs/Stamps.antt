@@ -30,7 +30,8 @@ presentAt t r = leb (r .ats) t && alive t r
 abbrev pub hadLeftWhen : Row → Row → Bool
 hadLeftWhen a b = not (inMemory a) && leb (a .dts) (b .ats)
 
--- rule 1, in memory together: "a had left when b came, or b had left when a came", as in figure 5(b), "otherwise together", as in 5(a)
+-- rule 1, in memory together: "a had left when b came, or b had left when a came", as in figure 5(b), "otherwise together", as in 5(a).
+-- Document 01 has other words for the same (`figure-is-rule` in Meaning)
 unfoldable pub together : Row → Row → Bool
 together a b = not (hadLeftWhen a b || hadLeftWhen b a)
 
