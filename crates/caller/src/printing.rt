@@ -1,9 +1,9 @@
 // What is printed: an answer, a session record and words, through a buffer that is written out when it is full.
-use calls::types::Answer;
-use calls::types::Session;
-use calls::types::Why;
 use libc::STDOUT_FILENO;
 use lines::printing::code_of;
+use rules::Answer;
+use rules::Session;
+use rules::Why;
 
 pub const TEXT: usize = 65536;
 

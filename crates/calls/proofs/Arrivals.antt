@@ -21,22 +21,25 @@ use Rattle.sheets.specs.Layout.{rowsNeed, roomOf, rowAt, putRow}
 use Rattle.sheets.specs.Pairs.{met, tellAll, putFrom}
 use Rattle.sheets.specs.Rows.{hot, flushed, lay}
 use Rattle.sheets.proofs.Laws.{length-lay, rows-lay, length-arrival}
-use Rattle.calls.specs.Calls.{After, after, joins, arrives, effect, afterCall}
-use Rattle.calls.specs.Refusals.{verdict, sessionFits, rowChecks, roomCheck, roomFor, makeRoom, arrived, checks}
-use Rattle.calls.specs.Work.{Fits, Rows, admitted, rowsAfter, Space}
-use Rattle.calls.specs.World.{World, world, pick, same, countOf, sheetOf, rowsOf, closedOf, withClock, withFeed, withSheet, flush, store}
-use Rattle.calls.specs.declared.types.Why.{Why}
-use Rattle.calls.specs.declared.types.Why.the-variants.{RoomShort}
-use Rattle.calls.specs.declared.types.Call.the-variants.{Arrive}
-use Rattle.calls.specs.declared.types.Answer.the-variants.{Taken, Refused}
-use Rattle.calls.specs.declared.refusals.Verdict.{Verdict}
-use Rattle.calls.specs.declared.refusals.Verdict.the-variants.{Good, No}
+use Rattle.rules.specs.Calls.{After, after, joins, arrives, effect, afterCall}
+use Rattle.rules.specs.Refusals.{verdict, sessionFits, rowChecks, roomCheck, roomFor, makeRoom, arrived, checks}
+use Rattle.rules.specs.Fits.{Fits}
+use Rattle.calls.specs.Work.{Rows, admitted, rowsAfter, Space}
+use Rattle.rules.specs.World.{World, world, pick, same, countOf, sheetOf, rowsOf, closedOf, withClock, withFeed, withSheet, flush, store}
+use Rattle.rules.specs.declared.Why.{Why}
+use Rattle.rules.specs.declared.Why.the-variants.{RoomShort}
+use Rattle.rules.specs.declared.Call.the-variants.{Arrive}
+use Rattle.rules.specs.declared.Answer.the-variants.{Taken, Refused}
+use Rattle.rules.specs.declared.Verdict.{Verdict}
+use Rattle.rules.specs.declared.Verdict.the-variants.{Good, No}
 use Rattle.calls.specs.declared.arriving.Admission.the-variants as admission
-use Rattle.calls.proofs.Checks.{fits-are}
-use Rattle.calls.proofs.Settling.{settle-no, settle-good, verdict-first, verdict-rest, verdict-good, verdict-no, fits-rows}
-use Rattle.calls.specs.declared.types.Session.{Session}
-use Rattle.calls.specs.declared.arriving.Room.{Room}
-use Rattle.calls.specs.declared.arriving.Room.the-variants.{Enough, Flush}
+use Rattle.rules.proofs.Checks.{fits-are}
+use Rattle.calls.proofs.Passing.{fits-rows}
+use Rattle.rules.proofs.Laws.{count-room}
+use Rattle.rules.proofs.Settling.{settle-no, settle-good, verdict-first, verdict-rest, verdict-good, verdict-no}
+use Rattle.rules.specs.declared.Session.{Session}
+use Rattle.rules.specs.declared.Room.{Room}
+use Rattle.rules.specs.declared.Room.the-variants.{Enough, Flush}
 
 -- ---- the count, told before the flush
 
@@ -66,14 +69,6 @@ rows-few t a b A h = h .a-few
 rows-few t a b B h = h .b-few
 
 -- ---- the box once there is room
-
-pub count-room : (room : Room) (w : World) (s : Source) → countOf (makeRoom room w) s ≡ countOf w s
-unfolding flush
-count-room Enough w s = refl
-count-room (Flush A q) w A = refl
-count-room (Flush A q) w B = refl
-count-room (Flush B q) w A = refl
-count-room (Flush B q) w B = refl
 
 row-laid : (f : ℕ → Row) (n : ℕ) (l : List ℕ) → rowsNeed n ≤ length l → (j : ℕ) → j < n → rowAt (lay f n l) j ≡ f j
 row-laid f n l h j b = ap (λ (g : ℕ → Row). g j) (rows-lay f n l h) ∙ rw (lt-ltb j n b)

@@ -24,18 +24,19 @@ use Rattle.sheets.specs.declared.pairs.Scope.the-variants.{Portion}
 use Rattle.sheets.specs.declared.rooms.Written.{Written}
 use Rattle.sheets.specs.declared.lists.ProbeList.{ProbeList}
 use Rattle.sheets.proofs.Laws.{latest-none, list-entries, length-list, list-small, wanted-few, product-few, pairs-from-start}
-use Rattle.calls.specs.Calls.{After, after, runs, owed, drains, effect, settle, afterCall}
-use Rattle.calls.specs.Refusals.{verdict, idle, ran, portionChecks, runChecks, checks}
-use Rattle.calls.specs.Work.{Fits, Listed, worldFrom, jobFrom, taskOf, ranUpto, runSettled}
-use Rattle.calls.specs.World.{World, world, pick, countOf, rowsOf, sideOf, seenFrom, withCounts, withNext, note, move}
-use Rattle.calls.specs.declared.types.Session.{Session}
-use Rattle.calls.specs.declared.types.Answer.the-variants.{More, Done, Ran, Refused}
-use Rattle.calls.specs.declared.types.Why.{Why}
-use Rattle.calls.specs.declared.types.Why.the-variants.{ListFull, RoomShort}
-use Rattle.calls.specs.declared.types.Call.the-variants.{Run}
-use Rattle.calls.specs.declared.refusals.Verdict.{Verdict}
-use Rattle.calls.specs.declared.refusals.Verdict.the-variants.{Good, No}
-use Rattle.calls.proofs.Settling.{settle-no, verdict-first, verdict-rest, verdict-good, verdict-no}
+use Rattle.rules.specs.Calls.{After, after, runs, owed, drains, effect, settle, afterCall}
+use Rattle.rules.specs.Refusals.{verdict, idle, ran, portionChecks, runChecks, checks}
+use Rattle.rules.specs.Fits.{Fits}
+use Rattle.calls.specs.Work.{Listed, worldFrom, jobFrom, taskOf, ranUpto, runSettled}
+use Rattle.rules.specs.World.{World, world, pick, countOf, rowsOf, sideOf, seenFrom, withCounts, withNext, note, move}
+use Rattle.rules.specs.declared.Session.{Session}
+use Rattle.rules.specs.declared.Answer.the-variants.{More, Done, Ran, Refused}
+use Rattle.rules.specs.declared.Why.{Why}
+use Rattle.rules.specs.declared.Why.the-variants.{ListFull, RoomShort}
+use Rattle.rules.specs.declared.Call.the-variants.{Run}
+use Rattle.rules.specs.declared.Verdict.{Verdict}
+use Rattle.rules.specs.declared.Verdict.the-variants.{Good, No}
+use Rattle.rules.proofs.Settling.{settle-no, verdict-first, verdict-rest, verdict-good, verdict-no}
 use Rattle.calls.specs.declared.running.Task.{Task}
 use Rattle.calls.specs.declared.running.Task.the-variants.{Idle, Crowded, Upto}
 

@@ -11,11 +11,12 @@ use Rattle.stamps.specs.Sources.{other}
 use Rattle.sheets.specs.Layout.{rowsNeed, singleRoom}
 use Rattle.sheets.specs.Lones.{Items, itemsIn, lonesFrom, Lists}
 use Rattle.sheets.specs.declared.rooms.Written.{Written}
-use Rattle.calls.specs.Calls.{after, lists}
-use Rattle.calls.specs.Work.{Fits, Rows, worldFrom}
-use Rattle.calls.specs.World.{pick, withLone, withPlace, pass}
-use Rattle.calls.specs.declared.types.Answer.the-variants.{MoreLone, DoneLone}
-use Rattle.calls.specs.declared.types.Session.{Session}
+use Rattle.rules.specs.Calls.{after, lists}
+use Rattle.rules.specs.Fits.{Fits}
+use Rattle.calls.specs.Work.{Rows, worldFrom}
+use Rattle.rules.specs.World.{pick, withLone, withPlace, pass}
+use Rattle.rules.specs.declared.Answer.the-variants.{MoreLone, DoneLone}
+use Rattle.rules.specs.declared.Session.{Session}
 
 -- ---- what crates/sheets asks
 

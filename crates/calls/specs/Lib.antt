@@ -1,9 +1,1 @@
-pub mod Answers
-pub mod Calls
-pub mod Demand3
-pub mod Lone
-pub mod Refusals
-pub mod Rounds
 pub mod Work
-pub mod Worked
-pub mod World

@@ -2,7 +2,7 @@
 use mathlib.Core.Path.{_≡_}
 use mathlib.Core.Bool.{cond}
 use mathlib.Core.List.{List}
-use Prim.Native.Nat.{ℕ, _+_, _*_, _≤_, _<_}
+use Prim.Native.Nat.{ℕ, _+_, _≤_, _<_}
 use lib.Dec.{ltb, leb}
 use lib.ListN.{length, getD}
 use Rattle.stamps.specs.declared.Source.{Source}
@@ -14,40 +14,20 @@ use Rattle.sheets.specs.Pairs.{told, putFrom}
 use Rattle.sheets.specs.declared.pairs.Job.{Job}
 use Rattle.sheets.specs.declared.pairs.Scope.{Scope}
 use Rattle.sheets.specs.Rows.{portionRows, latest, flushed}
-use Rattle.calls.specs.Calls.{After, after, runs, settle}
-use Rattle.calls.specs.World.{World, world, pick, same, rowsOf, countOf, sideOf, seenFrom, flush, note}
-use Rattle.calls.specs.Refusals.{verdict, idle, ran, runChecks}
-use Rattle.calls.specs.declared.types.Why.the-variants.{RoomShort}
-use Rattle.calls.specs.declared.types.Answer.the-variants.{Ran, Refused}
+use Rattle.rules.specs.Calls.{After, after, runs, settle}
+use Rattle.rules.specs.World.{World, world, pick, same, rowsOf, countOf, sideOf, seenFrom, flush, note}
+use Rattle.rules.specs.Refusals.{verdict, idle, ran, runChecks}
+use Rattle.rules.specs.declared.Why.the-variants.{RoomShort}
+use Rattle.rules.specs.declared.Answer.the-variants.{Ran, Refused}
 use Rattle.calls.specs.declared.running.Task.{Task}
 use Rattle.calls.specs.declared.running.Task.the-variants.{Idle, Crowded, Upto}
-use Rattle.calls.specs.declared.types.Session.{Session}
-use Rattle.calls.specs.declared.refusals.Verdict.{Verdict}
-use Rattle.calls.specs.declared.refusals.Verdict.the-variants.{Good, No}
-use Rattle.calls.specs.declared.arriving.Room.{Room}
-use Rattle.calls.specs.declared.arriving.Room.the-variants.{Enough, Flush}
+use Rattle.rules.specs.declared.Session.{Session}
+use Rattle.rules.specs.declared.Verdict.{Verdict}
+use Rattle.rules.specs.declared.Verdict.the-variants.{Good, No}
+use Rattle.rules.specs.declared.Room.{Room}
+use Rattle.rules.specs.declared.Room.the-variants.{Enough, Flush}
 use Rattle.calls.specs.declared.arriving.Admission.{Admission}
 use Rattle.calls.specs.declared.arriving.Admission.the-variants as admission
-
--- what number 1 has seen to
-pub record Sizes (p m n a b probe : ℕ) : Type 0 where
-  pub parts : (1 ≤ p) × (p ≤ 16)
-  pub slots : (1 ≤ m) × (m ≤ 1024)
-  pub limit : (1 ≤ n) × (n ≤ 4096)
-  pub a-long : rowsNeed n ≤ a
-  pub b-long : rowsNeed n ≤ b
-  pub probe-long : probeNeed p ≤ probe
-
--- of the sizes, the numbers and the counts
-pub record Fits (t : Session) (a b probe : ℕ) : Type 0 where
-  pub sizes : Sizes (t .parts) (t .slots) (t .limit) a b probe
-  pub a-few : t .a .rows ≤ t .limit
-  pub b-few : t .b .rows ≤ t .limit
-  pub clock : t .clock ≤ 16384
-  pub next : t .next ≤ t .a .rows * t .b .rows
-  pub a-lone : t .lone .a ≤ t .a .rows
-  pub b-lone : t .lone .b ≤ t .b .rows
-  pub short : (k : ℕ) → k < 2 * t .parts → getD (t .counts) k 0 ≤ 32
 
 -- what they ask of the rows: a record that passed number 1, and row sheets of these lengths
 pub record Rows (t : Session) (a b : ℕ) : Type 0 where

@@ -3,11 +3,12 @@ use crate::evicting::clear;
 use crate::feeds::feed_of;
 use crate::feeds::with_feed;
 use crate::refusals::session_fits;
-use crate::types::Answer;
-use crate::types::Feed;
-use crate::types::Reply;
-use crate::types::Session;
-use crate::types::Why;
+use rules::Answer;
+use rules::Feed;
+use rules::Reply;
+use rules::Room;
+use rules::Session;
+use rules::Why;
 use sheets::arrivals::count_met;
 use sheets::arrivals::count_met_after;
 use sheets::arrivals::write_met;
@@ -29,17 +30,11 @@ ghost use Rattle.stamps.specs.Sources.{other};
 ghost use Rattle.stamps.specs.Counting.{tally};
 ghost use Rattle.sheets.specs.Layout.{rowsNeed, pairsNeed, rowAt};
 ghost use Rattle.sheets.specs.Pairs.{met, tellAll, putFrom};
-ghost use Rattle.calls.specs.declared.types.Call.the-variants.{Arrive};
-ghost use Rattle.calls.specs.Calls.{leaves, joins, afterCall};
-ghost use Rattle.calls.specs.Refusals.{verdict, rowChecks, roomFor, makeRoom, arrived};
+ghost use Rattle.rules.specs.declared.Call.the-variants.{Arrive};
+ghost use Rattle.rules.specs.Calls.{leaves, joins, afterCall};
+ghost use Rattle.rules.specs.Refusals.{verdict, rowChecks, roomFor, makeRoom, arrived};
 ghost use Rattle.calls.specs.Work.{Rows, admitted, rowsAfter, Space};
-ghost use Rattle.calls.specs.World.{world, same, rowsOf, pick, store};
-
-// What has to be flushed for one more row.
-pub enum Room {
-    Enough,
-    Flush(Source, u32),
-}
+ghost use Rattle.rules.specs.World.{world, same, rowsOf, pick, store};
 
 // What the checks before the pairs find.
 pub enum Admission {

@@ -1,19 +1,19 @@
 // The closing of a source.
 use crate::feeds::feed_of;
 use crate::feeds::with_feed;
-use crate::refusals::Verdict;
 use crate::refusals::check_close;
-use crate::types::Answer;
-use crate::types::Feed;
-use crate::types::Reply;
-use crate::types::Session;
+use rules::Answer;
+use rules::Feed;
+use rules::Reply;
+use rules::Session;
+use rules::Verdict;
 use stamps::Source;
 ghost use mathlib.Core.Path.{_≡_};
 ghost use mathlib.Core.List.{List};
 ghost use Prim.Native.Nat.{ℕ};
-ghost use Rattle.calls.specs.declared.types.Call.the-variants.{Close};
-ghost use Rattle.calls.specs.Calls.{leaves, afterCall};
-ghost use Rattle.calls.specs.World.{world};
+ghost use Rattle.rules.specs.declared.Call.the-variants.{Close};
+ghost use Rattle.rules.specs.Calls.{leaves, afterCall};
+ghost use Rattle.rules.specs.World.{world};
 
 pub fn close(session: Session, source: Source, a: &[u32], b: &[u32], probe: &[u32]) -> Reply
     ensures { λ r. ⌜ ((out : List ℕ) → leaves r (now (a .entry)) (now (b .entry)) (now (probe .entry)) out ≡ afterCall (world session (now (a .entry)) (now (b .entry)) (now (probe .entry))) out (Close source)) ⌝ }

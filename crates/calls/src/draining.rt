@@ -1,9 +1,9 @@
 // A drain: the pairs that are still owed, as many as the room holds.
-use crate::refusals::Verdict;
 use crate::refusals::check_drain;
-use crate::types::Answer;
-use crate::types::Reply;
-use crate::types::Session;
+use rules::Answer;
+use rules::Reply;
+use rules::Session;
+use rules::Verdict;
 use sheets::layout::room_of;
 use sheets::pairs::Job;
 use sheets::pairs::Scope;
@@ -12,10 +12,10 @@ use stamps::Source;
 ghost use mathlib.Core.Path.{_≡_};
 ghost use lib.ListN.{length};
 ghost use Rattle.sheets.specs.Layout.{roomOf};
-ghost use Rattle.calls.specs.declared.types.Call.the-variants.{Drain};
-ghost use Rattle.calls.specs.Calls.{leaves, drains, afterCall};
-ghost use Rattle.calls.specs.Work.{Fits};
-ghost use Rattle.calls.specs.World.{world};
+ghost use Rattle.rules.specs.declared.Call.the-variants.{Drain};
+ghost use Rattle.rules.specs.Calls.{leaves, drains, afterCall};
+ghost use Rattle.rules.specs.Fits.{Fits};
+ghost use Rattle.rules.specs.World.{world};
 
 // A drain that is not refused.
 fn write_owed(

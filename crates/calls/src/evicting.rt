@@ -1,19 +1,19 @@
 // The flush of a named portion.
-use crate::refusals::Verdict;
 use crate::refusals::check_portion;
-use crate::types::Answer;
-use crate::types::Reply;
-use crate::types::Session;
+use rules::Answer;
+use rules::Reply;
+use rules::Session;
+use rules::Verdict;
 use sheets::rows::flush;
 use stamps::Source;
 ghost use mathlib.Core.Path.{_≡_};
 ghost use mathlib.Core.List.{List};
 ghost use Prim.Native.Nat.{ℕ};
 ghost use lib.ListN.{length};
-ghost use Rattle.calls.specs.declared.types.Call.the-variants.{Evict};
-ghost use Rattle.calls.specs.Calls.{leaves, afterCall};
+ghost use Rattle.rules.specs.declared.Call.the-variants.{Evict};
+ghost use Rattle.rules.specs.Calls.{leaves, afterCall};
 ghost use Rattle.calls.specs.Work.{Rows, Clears};
-ghost use Rattle.calls.specs.World.{world};
+ghost use Rattle.rules.specs.World.{world};
 
 // The session after a flush, and the rows flushed.
 pub struct Cleared {

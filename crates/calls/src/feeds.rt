@@ -1,9 +1,9 @@
 // One source's part of the session record.
-use crate::types::Feed;
-use crate::types::Session;
+use rules::Feed;
+use rules::Session;
 use stamps::Source;
 ghost use mathlib.Core.Path.{_≡_};
-ghost use Rattle.calls.specs.World.{pick, withFeed, withLone, withPlace};
+ghost use Rattle.rules.specs.World.{pick, withFeed, withLone, withPlace};
 
 pub fn feed_of(session: Session, source: Source) -> Feed
     ensures { λ r. ⌜ r ≡ pick source (session .a) (session .b) ⌝ }

@@ -9,4 +9,3 @@ pub mod opening;
 pub mod performing;
 pub mod refusals;
 pub mod running;
-pub mod types;

@@ -2,11 +2,11 @@
 use crate::feeds::feed_of;
 use crate::feeds::place_of;
 use crate::feeds::with_place;
-use crate::refusals::Verdict;
 use crate::refusals::check_drain;
-use crate::types::Answer;
-use crate::types::Reply;
-use crate::types::Session;
+use rules::Answer;
+use rules::Reply;
+use rules::Session;
+use rules::Verdict;
 use sheets::layout::single_room;
 use sheets::lones::write_lones;
 use stamps::Source;
@@ -15,10 +15,10 @@ ghost use mathlib.Core.List.{List};
 ghost use Prim.Native.Nat.{ℕ, _≤_};
 ghost use lib.ListN.{length};
 ghost use Rattle.sheets.specs.Layout.{singleRoom};
-ghost use Rattle.calls.specs.declared.types.Call.the-variants.{Lone};
-ghost use Rattle.calls.specs.Calls.{after, leaves, lists, afterCall};
+ghost use Rattle.rules.specs.declared.Call.the-variants.{Lone};
+ghost use Rattle.rules.specs.Calls.{after, leaves, lists, afterCall};
 ghost use Rattle.calls.specs.Work.{worldFrom, Rows};
-ghost use Rattle.calls.specs.World.{world, pick};
+ghost use Rattle.rules.specs.World.{world, pick};
 
 // A lone call that is not refused, seen from its source.
 fn write_alone(

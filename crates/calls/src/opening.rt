@@ -1,14 +1,14 @@
 // The opening of a session.
 use crate::refusals::sizes_fit;
-use crate::types::Answer;
-use crate::types::Feed;
-use crate::types::Places;
-use crate::types::Reply;
-use crate::types::Session;
-use crate::types::Why;
+use rules::Answer;
+use rules::Feed;
+use rules::Places;
+use rules::Reply;
+use rules::Session;
+use rules::Why;
 ghost use mathlib.Core.Path.{_≡_};
 ghost use lib.ListN.{length};
-ghost use Rattle.calls.specs.Calls.{fresh, opens};
+ghost use Rattle.rules.specs.Calls.{fresh, opens};
 
 // A record with nothing in it yet.
 pub fn new_session(parts: u32, slots: u32, limit: u32) -> Session

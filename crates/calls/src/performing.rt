@@ -5,12 +5,12 @@ use crate::draining::drain;
 use crate::evicting::evict;
 use crate::listing::lone;
 use crate::running::run;
-use crate::types::Call;
-use crate::types::Reply;
-use crate::types::Session;
+use rules::Call;
+use rules::Reply;
+use rules::Session;
 ghost use mathlib.Core.Path.{_≡_};
-ghost use Rattle.calls.specs.Calls.{leaves, afterCall};
-ghost use Rattle.calls.specs.World.{world};
+ghost use Rattle.rules.specs.Calls.{leaves, afterCall};
+ghost use Rattle.rules.specs.World.{world};
 
 pub fn perform(
     session: Session,

@@ -1,20 +1,15 @@
 // When the box says no: the checks that need no look at the rows.
 use crate::feeds::feed_of;
-use crate::types::Places;
-use crate::types::Session;
-use crate::types::Why;
+use rules::Places;
+use rules::Session;
+use rules::Verdict;
+use rules::Why;
 use sheets::layout::probe_need;
 use sheets::layout::rows_need;
 use stamps::Source;
 ghost use mathlib.Core.Path.{_≡_};
 ghost use Prim.Native.Nat.{_≤_};
-ghost use Rattle.calls.specs.Refusals.{sizesFit, numbersFit, countsFit, sessionFits, verdict, portionChecks, closeChecks, drainChecks};
-
-// What the checks of a call find, in their order.
-pub enum Verdict {
-    Good,
-    No(Why),
-}
+ghost use Rattle.rules.specs.Refusals.{sizesFit, numbersFit, countsFit, sessionFits, verdict, portionChecks, closeChecks, drainChecks};
 
 // P, M and N are in range, and the sheets are long enough for them.
 pub fn sizes_fit(parts: u32, slots: u32, limit: u32, a: usize, b: usize, probe: usize) -> bool

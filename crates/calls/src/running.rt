@@ -1,11 +1,11 @@
 // A run: a portion's spooled rows against the memory rows of the other source.
 use crate::feeds::feed_of;
-use crate::refusals::Verdict;
 use crate::refusals::check_portion;
-use crate::types::Answer;
-use crate::types::Reply;
-use crate::types::Session;
-use crate::types::Why;
+use rules::Answer;
+use rules::Reply;
+use rules::Session;
+use rules::Verdict;
+use rules::Why;
 use sheets::layout::put_entry;
 use sheets::layout::room_of;
 use sheets::lists::list_of;
@@ -21,10 +21,11 @@ ghost use mathlib.Core.Path.{_≡_};
 ghost use mathlib.Core.List.{List};
 ghost use Prim.Native.Nat.{ℕ, _<_};
 ghost use lib.ListN.{length};
-ghost use Rattle.calls.specs.declared.types.Call.the-variants.{Run};
-ghost use Rattle.calls.specs.Calls.{after, leaves, afterCall};
-ghost use Rattle.calls.specs.Work.{worldFrom, taskOf, ranUpto, runSettled, Fits, Listed};
-ghost use Rattle.calls.specs.World.{world, pick, note};
+ghost use Rattle.rules.specs.declared.Call.the-variants.{Run};
+ghost use Rattle.rules.specs.Calls.{after, leaves, afterCall};
+ghost use Rattle.rules.specs.Fits.{Fits};
+ghost use Rattle.calls.specs.Work.{worldFrom, taskOf, ranUpto, runSettled, Listed};
+ghost use Rattle.rules.specs.World.{world, pick, note};
 
 // What a run has to do: nothing, too much for its list, or the spooled rows up to a DTS.
 pub enum Task {

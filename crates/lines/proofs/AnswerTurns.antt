@@ -7,15 +7,15 @@ use Prim.Native.Nat.{ℕ, _≤_}
 use native.Mathlib.Omega.{arith}
 use lib.ListN.{length, take, length-take}
 use Rattle.sheets.specs.Layout.{pairsNeed}
-use Rattle.calls.specs.Answers.{writtenOf, refused}
-use Rattle.calls.specs.Calls.{opens, afterCall}
-use Rattle.calls.specs.World.{world}
-use Rattle.calls.specs.Refusals.{roomIn}
-use Rattle.calls.specs.declared.types.Call.{Call}
-use Rattle.calls.specs.declared.types.Call.the-variants as call
-use Rattle.calls.specs.declared.types.Reply.{Reply}
-use Rattle.calls.specs.declared.types.Why.the-variants.{NoStart}
-use Rattle.calls.proofs.Laws.{written-fits, opens-none}
+use Rattle.rules.specs.Answers.{writtenOf, refused}
+use Rattle.rules.specs.Calls.{opens, afterCall}
+use Rattle.rules.specs.World.{world}
+use Rattle.rules.specs.Refusals.{roomIn}
+use Rattle.rules.specs.declared.Call.{Call}
+use Rattle.rules.specs.declared.Call.the-variants as call
+use Rattle.rules.specs.declared.Reply.{Reply}
+use Rattle.rules.specs.declared.Why.the-variants.{NoStart}
+use Rattle.rules.proofs.Laws.{written-fits, opens-none}
 use Rattle.lines.specs.declared.answering.Outcome.{Outcome}
 use Rattle.lines.specs.declared.answering.State.{State}
 use Rattle.lines.specs.declared.gathering.Gathered.{Gathered}

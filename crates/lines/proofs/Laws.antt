@@ -13,7 +13,7 @@ use lib.Seq.{take-all, take-suc-set, take-append-le, length-take-le, drop-drop}
 use borrow.Author.Tests.{ltb-true, ltb-false, leb-true, leb-false, le-leb}
 use Rattle.stamps.specs.declared.Source.{Source}
 use Rattle.sheets.specs.Layout.{pairsNeed}
-use Rattle.calls.specs.Refusals.{roomIn}
+use Rattle.rules.specs.Refusals.{roomIn}
 use Rattle.lines.specs.declared.answering.State.{State}
 use Rattle.lines.specs.declared.gathering.Gathered.{Gathered}
 use Rattle.lines.specs.declared.numbers.Number.{Number}

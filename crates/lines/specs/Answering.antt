@@ -5,16 +5,16 @@ use mathlib.Core.List.{List, [], _++_}
 use Prim.Native.Nat.{ℕ, _≤_}
 use lib.ListN.{length, take, drop}
 use Rattle.sheets.specs.Layout.{pairsNeed, singlesNeed}
-use Rattle.calls.specs.Answers.{refused}
-use Rattle.calls.specs.Calls.{After, fresh, opens, afterCall}
-use Rattle.calls.specs.World.{world}
-use Rattle.calls.specs.declared.types.Answer.the-variants as answer
-use Rattle.calls.specs.declared.types.Call.{Call}
-use Rattle.calls.specs.declared.types.Call.the-variants as call
-use Rattle.calls.specs.declared.types.Reply.{Reply}
-use Rattle.calls.specs.declared.types.Session.{Session}
-use Rattle.calls.specs.declared.types.Why.{Why}
-use Rattle.calls.specs.declared.types.Why.the-variants.{BadLine, NoStart}
+use Rattle.rules.specs.Answers.{refused}
+use Rattle.rules.specs.Calls.{After, fresh, opens, afterCall}
+use Rattle.rules.specs.World.{world}
+use Rattle.rules.specs.declared.Answer.the-variants as answer
+use Rattle.rules.specs.declared.Call.{Call}
+use Rattle.rules.specs.declared.Call.the-variants as call
+use Rattle.rules.specs.declared.Reply.{Reply}
+use Rattle.rules.specs.declared.Session.{Session}
+use Rattle.rules.specs.declared.Why.{Why}
+use Rattle.rules.specs.declared.Why.the-variants.{BadLine, NoStart}
 use Rattle.lines.specs.declared.answering.Outcome.{Outcome}
 use Rattle.lines.specs.declared.answering.State.{State}
 use Rattle.lines.specs.declared.reading.Line.{Line}

@@ -6,11 +6,11 @@ use Prim.Native.Nat.{ℕ, zero, suc, _+_, _*_, _/_, _%_}
 use lib.Dec.{ltb}
 use lib.ListN.{length, take, drop}
 use lib.Seq.{sets}
-pub use Rattle.calls.specs.Answers.{codeOf, pairsOf, singlesOf, writtenOf}
-use Rattle.calls.specs.declared.types.Answer.{Answer}
-use Rattle.calls.specs.declared.types.Answer.the-variants as answer
-use Rattle.calls.specs.declared.types.Why.{Why}
-use Rattle.calls.specs.declared.types.Why.the-variants as why
+pub use Rattle.rules.specs.Answers.{codeOf, pairsOf, singlesOf, writtenOf}
+use Rattle.rules.specs.declared.Answer.{Answer}
+use Rattle.rules.specs.declared.Answer.the-variants as answer
+use Rattle.rules.specs.declared.Why.{Why}
+use Rattle.rules.specs.declared.Why.the-variants as why
 use Rattle.sheets.specs.Layout.{pairAt, pairWords, singleAt, singleWords}
 use Rattle.sheets.specs.Rooms.{readAll}
 use Rattle.lines.specs.declared.printing.Need.{Need}

@@ -5,7 +5,7 @@ use Prim.Native.Nat.{ℕ}
 use lib.Dec.{leb, eqb}
 use lib.ListN.{length, getD}
 use Rattle.stamps.specs.declared.Source.{Source}
-use Rattle.calls.specs.declared.types.Call.the-variants as call
+use Rattle.rules.specs.declared.Call.the-variants as call
 use Rattle.lines.specs.declared.numbers.Number.{Number}
 use Rattle.lines.specs.declared.numbers.Number.the-variants as number
 use Rattle.lines.specs.declared.words.Side.{Side}

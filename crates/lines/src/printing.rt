@@ -1,6 +1,6 @@
 // What the program prints, as bytes in a lent buffer: lines of a word and numbers. Each function answers the place after its text.
-use calls::types::Answer;
-use calls::types::Why;
+use rules::Answer;
+use rules::Why;
 use sheets::layout::PAIR;
 use sheets::layout::SINGLE;
 ghost use mathlib.Core.Path.{_≡_};

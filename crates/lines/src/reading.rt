@@ -7,7 +7,7 @@ use crate::words::Side;
 use crate::words::Word;
 use crate::words::read_side;
 use crate::words::read_word;
-use calls::types::Call;
+use rules::Call;
 use stamps::Message;
 use stamps::Source;
 ghost use mathlib.Core.Path.{_≡_};

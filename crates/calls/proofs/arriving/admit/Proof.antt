@@ -4,7 +4,7 @@ use borrow.Author.Needs.{needs}
 use mathlib.Core.Path.{sym, _∙_}
 use borrow.Author.Tests.{le-leb, lt-leb}
 use Rattle.stamps.specs.Keys.Laws.{made-good, made-bad}
-use Rattle.calls.specs.Refusals.{verdict}
+use Rattle.rules.specs.Refusals.{verdict}
 use Rattle.calls.proofs.arriving.admit.Statement.{statement}
 use Rattle.calls.proofs.arriving.admit.Tie as tie
 

@@ -3,7 +3,7 @@
 use borrow.Author.Needs.{needs}
 use Rattle.stamps.specs.declared.Source.the-variants.{A, B}
 use native.Mathlib.Omega.{arith}
-use Rattle.calls.specs.World.{world}
+use Rattle.rules.specs.World.{world}
 use Rattle.calls.proofs.Arrivals.{arrived-count}
 use mathlib.Core.List.{[]}
 use Rattle.calls.proofs.arriving.count_pairs.Statement.{statement}

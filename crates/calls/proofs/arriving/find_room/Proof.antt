@@ -4,7 +4,7 @@ use borrow.Author.Needs.{needs}
 use native.Mathlib.Omega.{arith}
 use borrow.Author.Tests.{le-leb, lt-leb}
 use Rattle.sheets.proofs.Laws.{memory-few}
-use Rattle.calls.specs.Refusals.{roomFor}
+use Rattle.rules.specs.Refusals.{roomFor}
 use Rattle.sheets.specs.Layout.{rowAt}
 use Rattle.calls.proofs.arriving.find_room.Statement.{statement}
 use Rattle.calls.proofs.arriving.find_room.Tie as tie

@@ -4,9 +4,9 @@ use borrow.Author.Needs.{needs}
 use mathlib.Core.Path.{ap}
 use native.Mathlib.Omega.{arith}
 use Rattle.stamps.specs.declared.Source.the-variants.{A, B}
-use Rattle.calls.specs.World.{world}
+use Rattle.rules.specs.World.{world}
 use Rattle.calls.proofs.Arrivals.{stored, rows-few}
-use Rattle.calls.specs.declared.types.Feed.{Feed}
+use Rattle.rules.specs.declared.Feed.{Feed}
 use Rattle.calls.proofs.arriving.store_row.Statement.{statement}
 use Rattle.calls.proofs.arriving.store_row.Tie as tie
 

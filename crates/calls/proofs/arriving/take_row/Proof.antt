@@ -4,8 +4,8 @@ use borrow.Author.Needs.{needs}
 use mathlib.Core.Path.{ap, _∙_}
 use Rattle.stamps.specs.Sources.{other}
 use Rattle.sheets.specs.Pairs.{tellAll, putFrom}
-use Rattle.calls.specs.Refusals.{arrived}
-use Rattle.calls.specs.World.{World, rowsOf, store}
+use Rattle.rules.specs.Refusals.{arrived}
+use Rattle.rules.specs.World.{World, rowsOf, store}
 use Rattle.calls.proofs.Arrivals.{pairs-counted, room-rows, room-space, joined}
 use Rattle.calls.proofs.arriving.take_row.Statement.{statement}
 use Rattle.calls.proofs.arriving.take_row.Tie as tie

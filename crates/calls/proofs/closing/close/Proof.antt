@@ -2,10 +2,10 @@
 -- Assumes nothing.
 use borrow.Author.Needs.{needs}
 use mathlib.Core.Path.{sym, _∙_}
-use Rattle.calls.specs.Calls.{effect}
-use Rattle.calls.specs.Refusals.{checks}
-use Rattle.calls.specs.World.{shut}
-use Rattle.calls.proofs.Settling.{settle-no, settle-good}
+use Rattle.rules.specs.Calls.{effect}
+use Rattle.rules.specs.Refusals.{checks}
+use Rattle.rules.specs.World.{shut}
+use Rattle.rules.proofs.Settling.{settle-no, settle-good}
 use Rattle.calls.proofs.closing.close.Statement.{statement}
 use Rattle.calls.proofs.closing.close.Tie as tie
 

@@ -2,9 +2,9 @@
 -- Assumes nothing.
 use borrow.Author.Needs.{needs}
 use mathlib.Core.Path.{sym, _∙_}
-use Rattle.calls.specs.Calls.{effect}
-use Rattle.calls.specs.Refusals.{checks}
-use Rattle.calls.proofs.Settling.{settle-no, settle-good, good-fits}
+use Rattle.rules.specs.Calls.{effect}
+use Rattle.rules.specs.Refusals.{checks}
+use Rattle.rules.proofs.Settling.{settle-no, settle-good, good-fits}
 use Rattle.calls.proofs.draining.drain.Statement.{statement}
 use Rattle.calls.proofs.draining.drain.Tie as tie
 

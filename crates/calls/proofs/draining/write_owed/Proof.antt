@@ -5,7 +5,7 @@ use native.Mathlib.Omega.{arith}
 use Rattle.stamps.specs.declared.Source.the-variants.{A}
 use Rattle.sheets.specs.declared.pairs.Scope.the-variants.{All}
 use Rattle.sheets.proofs.Laws.{product-few}
-use Rattle.calls.specs.World.{world}
+use Rattle.rules.specs.World.{world}
 use Rattle.calls.proofs.Runs.{fits-ready, drained}
 use Rattle.calls.proofs.draining.write_owed.Statement.{statement}
 use Rattle.calls.proofs.draining.write_owed.Tie as tie

@@ -2,8 +2,8 @@
 -- Assumes nothing.
 use borrow.Author.Needs.{needs}
 use Rattle.stamps.specs.declared.Source.the-variants.{A, B}
-use Rattle.calls.specs.World.{world}
-use Rattle.calls.proofs.Settling.{flush-is}
+use Rattle.rules.specs.World.{world}
+use Rattle.calls.proofs.Flushing.{flush-is}
 use Rattle.calls.proofs.evicting.clear.Statement.{statement}
 use Rattle.calls.proofs.evicting.clear.Tie as tie
 

@@ -2,9 +2,11 @@
 -- Assumes nothing.
 use borrow.Author.Needs.{needs}
 use mathlib.Core.Path.{sym, _∙_}
-use Rattle.calls.specs.Calls.{effect}
-use Rattle.calls.specs.Refusals.{checks}
-use Rattle.calls.proofs.Settling.{settle-no, settle-good, evicted, good-rows}
+use Rattle.rules.specs.Calls.{effect}
+use Rattle.rules.specs.Refusals.{checks}
+use Rattle.calls.proofs.Passing.{good-rows}
+use Rattle.calls.proofs.Flushing.{evicted}
+use Rattle.rules.proofs.Settling.{settle-no, settle-good}
 use Rattle.calls.proofs.evicting.evict.Statement.{statement}
 use Rattle.calls.proofs.evicting.evict.Tie as tie
 

@@ -3,11 +3,12 @@
 use borrow.Author.Needs.{needs}
 use mathlib.Core.Path.{sym, _∙_}
 use Rattle.stamps.specs.declared.Source.the-variants.{A, B}
-use Rattle.calls.specs.Calls.{effect}
-use Rattle.calls.specs.Refusals.{checks}
-use Rattle.calls.specs.World.{world}
-use Rattle.calls.specs.declared.types.Call.the-variants.{Lone}
-use Rattle.calls.proofs.Settling.{settle-no, settle-good, good-fits, good-rows}
+use Rattle.rules.specs.Calls.{effect}
+use Rattle.rules.specs.Refusals.{checks}
+use Rattle.rules.specs.World.{world}
+use Rattle.rules.specs.declared.Call.the-variants.{Lone}
+use Rattle.calls.proofs.Passing.{good-rows}
+use Rattle.rules.proofs.Settling.{settle-no, settle-good, good-fits}
 use Rattle.calls.proofs.Singles.{place-fits}
 use Rattle.calls.proofs.listing.lone.Statement.{statement}
 use Rattle.calls.proofs.listing.lone.Tie as tie

@@ -1,7 +1,7 @@
 -- `calls::opening::open` meets its contract: the sizes fit, and the record is fresh, or they do not, and it is one of zeros.
 -- Assumes nothing.
 use borrow.Author.Needs.{needs}
-use Rattle.calls.specs.Calls.{opens}
+use Rattle.rules.specs.Calls.{opens}
 use Rattle.calls.proofs.opening.open.Statement.{statement}
 use Rattle.calls.proofs.opening.open.Tie as tie
 

@@ -1,7 +1,7 @@
 -- `calls::refusals::check_close` meets its contract: each return is the first check that fails, or none.
 -- Assumes nothing.
 use borrow.Author.Needs.{needs}
-use Rattle.calls.specs.Refusals.{verdict}
+use Rattle.rules.specs.Refusals.{verdict}
 use Rattle.calls.proofs.refusals.check_close.Statement.{statement}
 use Rattle.calls.proofs.refusals.check_close.Tie as tie
 

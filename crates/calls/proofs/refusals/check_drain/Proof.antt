@@ -2,7 +2,7 @@
 -- Assumes nothing.
 use borrow.Author.Needs.{needs}
 use borrow.Author.Tests.{eq-eqb, ne-eqb}
-use Rattle.calls.specs.Refusals.{verdict}
+use Rattle.rules.specs.Refusals.{verdict}
 use Rattle.calls.proofs.refusals.check_drain.Statement.{statement}
 use Rattle.calls.proofs.refusals.check_drain.Tie as tie
 

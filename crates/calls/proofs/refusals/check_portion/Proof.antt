@@ -2,7 +2,7 @@
 -- Assumes nothing.
 use borrow.Author.Needs.{needs}
 use borrow.Author.Tests.{le-leb, lt-leb}
-use Rattle.calls.specs.Refusals.{verdict}
+use Rattle.rules.specs.Refusals.{verdict}
 use Rattle.calls.proofs.refusals.check_portion.Statement.{statement}
 use Rattle.calls.proofs.refusals.check_portion.Tie as tie
 

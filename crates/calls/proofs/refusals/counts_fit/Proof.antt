@@ -5,7 +5,7 @@ use Prim.Native.Nat.{_≤_, _-_}
 use mathlib.Core.Path.{_≡_}
 use native.Mathlib.Omega.{arith}
 use native.Mathlib.Numerals.{add-one}
-use Rattle.calls.specs.Refusals.{countsFit}
+use Rattle.rules.specs.Refusals.{countsFit}
 use Rattle.calls.proofs.refusals.counts_fit.Statement.{statement}
 use Rattle.calls.proofs.refusals.counts_fit.Tie as tie
 

@@ -2,7 +2,7 @@
 -- Assumes nothing.
 use borrow.Author.Needs.{needs}
 use native.Mathlib.Omega.{arith}
-use Rattle.calls.proofs.Checks.{product-fits}
+use Rattle.calls.proofs.Passing.{product-fits}
 use mathlib.Core.Bool.{and-assoc}
 use Rattle.calls.proofs.refusals.numbers_fit.Statement.{statement}
 use Rattle.calls.proofs.refusals.numbers_fit.Tie as tie

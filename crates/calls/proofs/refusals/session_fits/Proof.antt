@@ -3,7 +3,8 @@
 use borrow.Author.Needs.{needs}
 use mathlib.Core.Path.{sym, _∙_}
 use native.Mathlib.Omega.{arith}
-use Rattle.calls.proofs.Checks.{sizes-are, session-good, session-numbers, session-sizes}
+use Rattle.calls.proofs.Passing.{session-good, session-numbers, session-sizes}
+use Rattle.rules.proofs.Checks.{sizes-are}
 use Rattle.calls.proofs.refusals.session_fits.Statement.{statement}
 use Rattle.calls.proofs.refusals.session_fits.Tie as tie
 

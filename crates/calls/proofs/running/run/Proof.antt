@@ -2,10 +2,10 @@
 -- Assumes nothing.
 use borrow.Author.Needs.{needs}
 use mathlib.Core.Path.{sym, _∙_}
-use Rattle.calls.proofs.Settling.{good-fits}
+use Rattle.rules.proofs.Settling.{good-fits}
 use Rattle.calls.proofs.Runs.{run-refused, run-settled, portion-small}
 use Rattle.stamps.specs.declared.Source.the-variants.{A, B}
-use Rattle.calls.specs.World.{world}
+use Rattle.rules.specs.World.{world}
 use Rattle.calls.proofs.running.run.Statement.{statement}
 use Rattle.calls.proofs.running.run.Tie as tie
 

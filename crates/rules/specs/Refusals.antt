@@ -17,17 +17,17 @@ use Rattle.sheets.specs.Pairs.{Pair, arrivalPairs, wantedPairs}
 use Rattle.sheets.specs.Rows.{memoryRows, spooled, victim}
 use Rattle.sheets.specs.declared.pairs.Scope.the-variants.{Portion}
 use Rattle.sheets.specs.declared.rows.Victim.{Victim}
-use Rattle.calls.specs.World.{World, pick, countOf, rowsOf, sideOf, seenFrom, flush}
-use Rattle.calls.specs.declared.types.Places.{Places}
-use Rattle.calls.specs.declared.types.Session.{Session}
-use Rattle.calls.specs.declared.types.Call.{Call}
-use Rattle.calls.specs.declared.types.Call.the-variants.{Arrive, Evict, Run, Close, Drain, Lone}
-use Rattle.calls.specs.declared.types.Why.{Why}
-use Rattle.calls.specs.declared.types.Why.the-variants.{BadSheet, BadKey, BadPart, Closed, SheetFull, ListFull, StillOpen, RoomShort}
-use Rattle.calls.specs.declared.refusals.Verdict.{Verdict}
-use Rattle.calls.specs.declared.refusals.Verdict.the-variants.{Good, No}
-use Rattle.calls.specs.declared.arriving.Room.{Room}
-use Rattle.calls.specs.declared.arriving.Room.the-variants.{Enough, Flush}
+use Rattle.rules.specs.World.{World, pick, countOf, rowsOf, sideOf, seenFrom, flush}
+use Rattle.rules.specs.declared.Places.{Places}
+use Rattle.rules.specs.declared.Session.{Session}
+use Rattle.rules.specs.declared.Call.{Call}
+use Rattle.rules.specs.declared.Call.the-variants.{Arrive, Evict, Run, Close, Drain, Lone}
+use Rattle.rules.specs.declared.Why.{Why}
+use Rattle.rules.specs.declared.Why.the-variants.{BadSheet, BadKey, BadPart, Closed, SheetFull, ListFull, StillOpen, RoomShort}
+use Rattle.rules.specs.declared.Verdict.{Verdict}
+use Rattle.rules.specs.declared.Verdict.the-variants.{Good, No}
+use Rattle.rules.specs.declared.Room.{Room}
+use Rattle.rules.specs.declared.Room.the-variants.{Enough, Flush}
 
 -- ---- checks in order
 

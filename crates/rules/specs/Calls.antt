@@ -15,17 +15,17 @@ use Rattle.sheets.specs.Pairs.{Pair, position, pairsFrom, tellAll, told, putFro
 use Rattle.sheets.specs.Rooms.{onward, putAll}
 use Rattle.sheets.specs.Rows.{portionRows, latest}
 use Rattle.sheets.specs.declared.pairs.Scope.the-variants.{All}
-use Rattle.calls.specs.World.{World, world, countOf, rowsOf, seenFrom, placeOf, itemsFrom, flush, store, note, shut, move, pass}
-use Rattle.calls.specs.Refusals.{verdict, sizesFit, roomFor, makeRoom, arrived, idle, ran, roomIn, checks}
-use Rattle.calls.specs.declared.types.Session.{Session}
-use Rattle.calls.specs.declared.types.Call.{Call}
-use Rattle.calls.specs.declared.types.Call.the-variants.{Arrive, Evict, Run, Close, Drain, Lone}
-use Rattle.calls.specs.declared.types.Why.the-variants.{BadSheet}
-use Rattle.calls.specs.declared.types.Answer.{Answer}
-use Rattle.calls.specs.declared.types.Answer.the-variants.{Opened, Taken, Flushed, Ran, Shut, More, Done, MoreLone, DoneLone, Refused}
-use Rattle.calls.specs.declared.types.Reply.{Reply}
-use Rattle.calls.specs.declared.refusals.Verdict.{Verdict}
-use Rattle.calls.specs.declared.refusals.Verdict.the-variants.{Good, No}
+use Rattle.rules.specs.World.{World, world, countOf, rowsOf, seenFrom, placeOf, itemsFrom, flush, store, note, shut, move, pass}
+use Rattle.rules.specs.Refusals.{verdict, sizesFit, roomFor, makeRoom, arrived, idle, ran, roomIn, checks}
+use Rattle.rules.specs.declared.Session.{Session}
+use Rattle.rules.specs.declared.Call.{Call}
+use Rattle.rules.specs.declared.Call.the-variants.{Arrive, Evict, Run, Close, Drain, Lone}
+use Rattle.rules.specs.declared.Why.the-variants.{BadSheet}
+use Rattle.rules.specs.declared.Answer.{Answer}
+use Rattle.rules.specs.declared.Answer.the-variants.{Opened, Taken, Flushed, Ran, Shut, More, Done, MoreLone, DoneLone, Refused}
+use Rattle.rules.specs.declared.Reply.{Reply}
+use Rattle.rules.specs.declared.Verdict.{Verdict}
+use Rattle.rules.specs.declared.Verdict.the-variants.{Good, No}
 
 -- an answer, the record and the sheets, and the output
 pub record After : Type 0 where

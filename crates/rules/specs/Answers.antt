@@ -1,10 +1,10 @@
 -- Document 01's number and values for each kind of answer.
 use mathlib.Core.Bool.{Bool, true, false}
 use Prim.Native.Nat.{ℕ, _+_}
-use Rattle.calls.specs.declared.types.Why.{Why}
-use Rattle.calls.specs.declared.types.Why.the-variants.{BadSheet, BadKey, BadPart, Closed, SheetFull, ListFull, StillOpen, RoomShort, BadLine, NoStart}
-use Rattle.calls.specs.declared.types.Answer.{Answer}
-use Rattle.calls.specs.declared.types.Answer.the-variants.{Opened, Taken, Flushed, Ran, Shut, More, Done, MoreLone, DoneLone, Refused}
+use Rattle.rules.specs.declared.Why.{Why}
+use Rattle.rules.specs.declared.Why.the-variants.{BadSheet, BadKey, BadPart, Closed, SheetFull, ListFull, StillOpen, RoomShort, BadLine, NoStart}
+use Rattle.rules.specs.declared.Answer.{Answer}
+use Rattle.rules.specs.declared.Answer.the-variants.{Opened, Taken, Flushed, Ran, Shut, More, Done, MoreLone, DoneLone, Refused}
 
 -- the number of a refusal in the table
 abbrev pub codeOf : Why → ℕ

@@ -13,14 +13,15 @@ use Rattle.sheets.specs.Layout.{Told, rowAt, putRow, entryAt, putEntry, pairAt,
 use Rattle.sheets.specs.Lists.{entries, listOf, probedAt}
 use Rattle.sheets.specs.Rows.{lay, largestPart, victim}
 use Rattle.sheets.specs.Pairs.{arrivalPairs, wanted, wantedPairs, pairsFrom, pairsAt}
-use Rattle.calls.specs.Answers.{pairsOf}
-use Rattle.calls.specs.World.{World, flush, store, note, shut, move}
-use Rattle.calls.specs.Refusals.{verdict, sessionFits, roomFor, checks}
-use Rattle.calls.specs.Calls.{After, fresh, joins, arrives, evicts, runs, drains, effect, afterCall}
-use Rattle.calls.specs.declared.types.Call.{Call}
-use Rattle.calls.specs.declared.types.Call.the-variants.{Arrive, Evict, Run, Close, Drain}
-use Rattle.calls.specs.declared.types.Answer.{Answer}
-use Rattle.calls.specs.declared.types.Answer.the-variants.{Taken, Flushed, Ran, Shut, More, Done}
+use Rattle.rules.specs.Answers.{pairsOf}
+use Rattle.rules.specs.World.{World, flush, store, note, shut, move}
+use Rattle.rules.specs.Refusals.{verdict, sessionFits, roomFor, checks}
+use Rattle.rules.specs.Calls.{After, fresh, joins, arrives, evicts, runs, drains, effect, afterCall}
+use Rattle.rules.specs.declared.Call.{Call}
+use Rattle.rules.specs.declared.Call.the-variants.{Arrive, Evict, Run, Close, Drain}
+use Rattle.rules.specs.declared.Why.the-variants.{StillOpen}
+use Rattle.rules.specs.declared.Answer.{Answer}
+use Rattle.rules.specs.declared.Answer.the-variants.{Taken, Flushed, Ran, Shut, More, Done, Refused}
 
 -- the box, what it answered, and what it wrote
 pub record Played : Type 0 where
@@ -112,6 +113,16 @@ fed-is = refl
 run-is : run fedStage ≡ runStage
 unfolding run inRange itemOf itemsMatch partOf alive presentAt together covers used doneBefore rowAt putRow entryAt putEntry pairAt putPair entries listOf probedAt lay largestPart victim arrivalPairs wanted wantedPairs pairsFrom flush store note shut move verdict sessionFits roomFor checks joins arrives evicts runs drains effect afterCall ask play
 run-is = refl
+
+-- after the five rows RUN,B,0 has nothing to write, and leaves its entry all the same
+quiet-is : let p = ask 4 (Run B 0) fedStage in (p .answers ≡ fedStage .answers ++ (Ran 0 ∷ [])) × (p .world .session .counts ≡ 0 ∷ 0 ∷ 1 ∷ replicate 29 0)
+unfolding inRange itemOf itemsMatch partOf alive presentAt together covers used doneBefore rowAt putRow entryAt putEntry pairAt putPair entries listOf probedAt lay largestPart victim arrivalPairs wanted wantedPairs pairsFrom flush store note shut move verdict sessionFits roomFor checks joins arrives evicts runs drains effect afterCall ask play
+quiet-is = (refl, refl)
+
+-- the table is read from the top: a drain with no room, while the sources are open, is StillOpen and not RoomShort
+first-is : ask 0 Drain fedStage .answers ≡ fedStage .answers ++ (Refused StillOpen ∷ [])
+unfolding inRange itemOf itemsMatch partOf alive presentAt together covers used doneBefore rowAt putRow entryAt putEntry pairAt putPair entries listOf probedAt lay largestPart victim arrivalPairs wanted wantedPairs pairsFrom flush store note shut move verdict sessionFits roomFor checks joins arrives evicts runs drains effect afterCall ask play
+first-is = refl
 
 -- and after the drains: four answers and two pairs more, and no word of the sheets changed
 drained-is : (drained runStage .answers ≡ runStage .answers ++ (Shut ∷ Shut ∷ More 1 ∷ Done 1 ∷ []))

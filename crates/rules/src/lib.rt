@@ -1,4 +1,4 @@
-// The session record, the calls, and what they answer.
+// The session record, the calls, and what they answer: the types that the definitions speak of. No code.
 use stamps::Message;
 use stamps::Source;
 
@@ -67,4 +67,16 @@ pub enum Answer {
 pub struct Reply {
     pub answer: Answer,
     pub session: Session,
+}
+
+// What the checks of a call find, in their order.
+pub enum Verdict {
+    Good,
+    No(Why),
+}
+
+// What has to be flushed for one more row.
+pub enum Room {
+    Enough,
+    Flush(Source, u32),
 }

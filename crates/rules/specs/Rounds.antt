@@ -5,9 +5,9 @@ use mathlib.Core.List.{List, [], _∷_}
 use Prim.Native.Nat.{ℕ, suc, _+_, _*_, _-_, _/_, min}
 use lib.Dec.{leb}
 use lib.ListN.{length, take}
-use Rattle.calls.specs.Refusals.{roomIn}
-use Rattle.calls.specs.declared.types.Call.{Call}
-use Rattle.calls.specs.declared.types.Answer.{Answer}
+use Rattle.rules.specs.Refusals.{roomIn}
+use Rattle.rules.specs.declared.Call.{Call}
+use Rattle.rules.specs.declared.Answer.{Answer}
 
 -- a call, with the output that it is lent
 pub record Lent : Type 0 where

@@ -19,8 +19,8 @@ use Rattle.sheets.specs.Rows.{portionRows, flushed, lay}
 use Rattle.sheets.proofs.Laws.{length-lay, rows-lay, rows-put}
 use Rattle.sheets.proofs.Changes.{flushedSide, storedSide, newRow, notedSide, withA}
 use Rattle.sheets.proofs.Noted.{list-own, list-facing}
-use Rattle.calls.specs.declared.types.Session.{Session}
-use Rattle.calls.specs.World.{World, same, countOf, sheetOf, closedOf, rowsOf, sideOf, seenFrom, flush, store, note}
+use Rattle.rules.specs.declared.Session.{Session}
+use Rattle.rules.specs.World.{World, same, countOf, sheetOf, closedOf, rowsOf, sideOf, seenFrom, flush, store, note}
 
 -- what holds of a source and of the other one holds of both
 pub both-sources : (P : Source → Type 0) (s : Source) → P s → P (other s) → (u : Source) → P u

@@ -15,21 +15,21 @@ use Rattle.stamps.specs.Counting.Laws.{tally-le}
 use Rattle.stamps.specs.Keys.{itemOf}
 use Rattle.sheets.specs.Layout.{roomOf, singleRoom}
 use Rattle.sheets.specs.Rows.{hot}
-use Rattle.calls.specs.Answers.{refused, writtenOf}
-use Rattle.calls.specs.Calls.{After, after, leaves, joins, arrives, evicts, tries, runs, owed, drains, alone, lists, effect, settle, afterCall, fresh, opens}
-use Rattle.calls.specs.Refusals.{Check, check, verdict, sizesFit, roomFor, makeRoom, idle, portionChecks, rowChecks, roomCheck, tryChecks, roomIn, checks}
-use Rattle.calls.specs.World.{World, countOf, rowsOf, flush, store, note, shut, move, pass, sideOf}
-use Rattle.calls.specs.declared.types.Call.{Call}
-use Rattle.calls.specs.declared.types.Call.the-variants.{Arrive, Evict, Run, Close, Drain, Lone}
-use Rattle.calls.specs.declared.types.Why.{Why}
-use Rattle.calls.specs.declared.types.Why.the-variants.{BadSheet, ListFull}
-use Rattle.calls.specs.declared.types.Answer.the-variants.{Opened, Ran, More, Done, MoreLone, DoneLone, Refused}
-use Rattle.calls.specs.declared.types.Reply.{Reply}
-use Rattle.calls.specs.declared.refusals.Verdict.{Verdict}
-use Rattle.calls.specs.declared.refusals.Verdict.the-variants.{Good, No}
-use Rattle.calls.specs.declared.arriving.Room.{Room}
-use Rattle.calls.specs.declared.arriving.Room.the-variants.{Enough, Flush}
-use Rattle.calls.proofs.Settling.{either, verdict-first, verdict-last}
+use Rattle.rules.specs.Answers.{refused, writtenOf}
+use Rattle.rules.specs.Calls.{After, after, leaves, joins, arrives, evicts, tries, runs, owed, drains, alone, lists, effect, settle, afterCall, fresh, opens}
+use Rattle.rules.specs.Refusals.{Check, check, verdict, sizesFit, roomFor, makeRoom, idle, portionChecks, rowChecks, roomCheck, tryChecks, roomIn, checks}
+use Rattle.rules.specs.World.{World, countOf, rowsOf, flush, store, note, shut, move, pass, sideOf}
+use Rattle.rules.specs.declared.Call.{Call}
+use Rattle.rules.specs.declared.Call.the-variants.{Arrive, Evict, Run, Close, Drain, Lone}
+use Rattle.rules.specs.declared.Why.{Why}
+use Rattle.rules.specs.declared.Why.the-variants.{BadSheet, ListFull}
+use Rattle.rules.specs.declared.Answer.the-variants.{Opened, Ran, More, Done, MoreLone, DoneLone, Refused}
+use Rattle.rules.specs.declared.Reply.{Reply}
+use Rattle.rules.specs.declared.Verdict.{Verdict}
+use Rattle.rules.specs.declared.Verdict.the-variants.{Good, No}
+use Rattle.rules.specs.declared.Room.{Room}
+use Rattle.rules.specs.declared.Room.the-variants.{Enough, Flush}
+use Rattle.rules.proofs.Settling.{either, verdict-first, verdict-last}
 
 -- ---- any two results that a promise allows for one input are equal
 
@@ -74,6 +74,16 @@ refusal-leaves w o c y = go (verdict (checks w c (roomIn c (length o))))
     go : (v : Verdict) → settle v w o (effect w o c) .answer ≡ Refused y → (settle v w o (effect w o c) .world ≡ w) × (settle v w o (effect w o c) .out ≡ o)
     go Good e = absurd (false≢true (sym (accepts w o c) ∙ ap refused e))
     go (No z) e = (refl, refl)
+
+-- ---- making room changes no count
+
+pub count-room : (room : Room) (w : World) (s : Source) → countOf (makeRoom room w) s ≡ countOf w s
+unfolding flush
+count-room Enough w s = refl
+count-room (Flush A q) w A = refl
+count-room (Flush A q) w B = refl
+count-room (Flush B q) w A = refl
+count-room (Flush B q) w B = refl
 
 -- ---- the clock goes up by at most one a row, and one more for a new one
 

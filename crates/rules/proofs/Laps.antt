@@ -15,18 +15,18 @@ use Rattle.stamps.specs.declared.Message.{Message}
 use Rattle.stamps.specs.Counting.Laws.{Each, length-values, values-at}
 use Rattle.stamps.specs.Keys.{inRange, itemOf, itemsMatch}
 use Rattle.stamps.specs.Keys.Laws.{match-same}
-use Rattle.calls.specs.Answers.{refused}
-use Rattle.calls.specs.Calls.{effect, settle, afterCall}
-use Rattle.calls.specs.Demand3.{offered, accepted, itemsOf}
-use Rattle.calls.specs.Refusals.{verdict, roomIn, checks}
-use Rattle.calls.specs.Rounds.{Lent}
-use Rattle.calls.specs.World.{World, same, countOf, rowsOf}
-use Rattle.calls.specs.declared.types.Call.{Call}
-use Rattle.calls.specs.declared.types.Call.the-variants.{Arrive, Evict, Run, Close, Drain, Lone}
-use Rattle.calls.specs.declared.refusals.Verdict.{Verdict}
-use Rattle.calls.specs.declared.refusals.Verdict.the-variants.{Good, No}
-use Rattle.calls.proofs.Laws.{accepts}
-use Rattle.calls.proofs.Settling.{verdict-first, verdict-rest}
+use Rattle.rules.specs.Answers.{refused}
+use Rattle.rules.specs.Calls.{effect, settle, afterCall}
+use Rattle.rules.specs.Demand3.{offered, accepted, itemsOf}
+use Rattle.rules.specs.Refusals.{verdict, roomIn, checks}
+use Rattle.rules.specs.Rounds.{Lent}
+use Rattle.rules.specs.World.{World, same, countOf, rowsOf}
+use Rattle.rules.specs.declared.Call.{Call}
+use Rattle.rules.specs.declared.Call.the-variants.{Arrive, Evict, Run, Close, Drain, Lone}
+use Rattle.rules.specs.declared.Verdict.{Verdict}
+use Rattle.rules.specs.declared.Verdict.the-variants.{Good, No}
+use Rattle.rules.proofs.Laws.{accepts}
+use Rattle.rules.proofs.Settling.{verdict-first, verdict-rest}
 
 -- ---- accepted messages are in range
 

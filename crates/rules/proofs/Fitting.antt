@@ -19,11 +19,11 @@ use Rattle.sheets.specs.Layout.{rowsNeed, probeNeed, listNo}
 use Rattle.sheets.specs.Pairs.{Side}
 use Rattle.sheets.proofs.Changes.{memoryOf, flush-memory, store-memory}
 use Rattle.sheets.proofs.Laws.{length-list}
-use Rattle.calls.specs.Refusals.{countsFit, sessionFits}
-use Rattle.calls.specs.Work.{Sizes}
-use Rattle.calls.specs.World.{World, pick, countOf, sheetOf, placeOf, sideOf, withNext, withLone, withPlace, flush, store, note, shut, move, pass}
-use Rattle.calls.specs.declared.types.Places.{Places}
-use Rattle.calls.proofs.Seen.{both-sources, Extent, extent, Seen, flush-seen, store-seen, Listable, note-seen}
+use Rattle.rules.specs.Refusals.{countsFit, sessionFits}
+use Rattle.rules.specs.Fits.{Sizes}
+use Rattle.rules.specs.World.{World, pick, countOf, sheetOf, placeOf, sideOf, withNext, withLone, withPlace, flush, store, note, shut, move, pass}
+use Rattle.rules.specs.declared.Places.{Places}
+use Rattle.rules.proofs.Seen.{both-sources, Extent, extent, Seen, flush-seen, store-seen, Listable, note-seen}
 
 -- the sizes of a box are in range, and its sheets are long enough
 abbrev SizesIn : Extent → Type 0

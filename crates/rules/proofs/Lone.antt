@@ -18,26 +18,26 @@ use Rattle.sheets.specs.Rooms.{onward}
 use Rattle.sheets.proofs.Alone.{lone-parts, lone-tells, lones-after, unlisted-left}
 use Rattle.sheets.proofs.Handing.{read-told, Parts}
 use Rattle.sheets.proofs.Laws.{single-words}
-use Rattle.calls.specs.Answers.{singlesOf}
-use Rattle.calls.specs.Calls.{After, alone, lists, effect, settle, afterCall, opens}
-use Rattle.calls.specs.Demand3.{wrote, afterCalls, opened, ForAnyCalls}
-use Rattle.calls.specs.Lone.{asks, named, listed, toList, Lones}
-use Rattle.calls.specs.Refusals.{verdict, bothClosed, checks}
-use Rattle.calls.specs.Rounds.{Lent, Handed, sayingAt}
-use Rattle.calls.specs.World.{World, pick, same, countOf, placeOf, itemsFrom, pass}
-use Rattle.calls.specs.declared.types.Places.{Places}
-use Rattle.calls.specs.declared.types.Call.{Call}
-use Rattle.calls.specs.declared.types.Call.the-variants.{Lone}
-use Rattle.calls.specs.declared.types.Answer.the-variants.{Opened, MoreLone, DoneLone}
-use Rattle.calls.specs.declared.refusals.Verdict.{Verdict}
-use Rattle.calls.specs.declared.refusals.Verdict.the-variants.{Good, No}
-use Rattle.calls.proofs.Apart.{by-kind, other-asks, asks-own, viewOf, closed-leaves, lone-leaves, own-places, others-heard, lone-heard}
-use Rattle.calls.proofs.Seen.{same-own}
-use Rattle.calls.proofs.Fitting.{Fit, fit-pass}
-use Rattle.calls.proofs.Moments.{sits-opened, no-places, sits-calls}
-use Rattle.calls.proofs.Rounds.{said-last, Gives, gives-first, handed, rounds, Shut, shut-good}
-use Rattle.calls.proofs.Settling.{settle-good, either, verdict-first, verdict-rest}
-use Rattle.calls.proofs.Steps.{Sits, sits-call}
+use Rattle.rules.specs.Answers.{singlesOf}
+use Rattle.rules.specs.Calls.{After, alone, lists, effect, settle, afterCall, opens}
+use Rattle.rules.specs.Demand3.{wrote, afterCalls, opened, ForAnyCalls}
+use Rattle.rules.specs.Lone.{asks, named, listed, toList, Lones}
+use Rattle.rules.specs.Refusals.{verdict, bothClosed, checks}
+use Rattle.rules.specs.Rounds.{Lent, Handed, sayingAt}
+use Rattle.rules.specs.World.{World, pick, same, countOf, placeOf, itemsFrom, pass}
+use Rattle.rules.specs.declared.Places.{Places}
+use Rattle.rules.specs.declared.Call.{Call}
+use Rattle.rules.specs.declared.Call.the-variants.{Lone}
+use Rattle.rules.specs.declared.Answer.the-variants.{Opened, MoreLone, DoneLone}
+use Rattle.rules.specs.declared.Verdict.{Verdict}
+use Rattle.rules.specs.declared.Verdict.the-variants.{Good, No}
+use Rattle.rules.proofs.Apart.{by-kind, other-asks, asks-own, viewOf, closed-leaves, lone-leaves, own-places, others-heard, lone-heard}
+use Rattle.rules.proofs.Seen.{same-own}
+use Rattle.rules.proofs.Fitting.{Fit, fit-pass}
+use Rattle.rules.proofs.Moments.{sits-opened, no-places, sits-calls}
+use Rattle.rules.proofs.Rounds.{said-last, Gives, gives-first, handed, rounds, Shut, shut-good}
+use Rattle.rules.proofs.Settling.{settle-good, either, verdict-first, verdict-rest}
+use Rattle.rules.proofs.Steps.{Sits, sits-call}
 
 -- ---- one call
 

@@ -12,24 +12,24 @@ use Rattle.stamps.specs.declared.Item.{Item}
 use Rattle.stamps.specs.Keys.{itemOf}
 use Rattle.stamps.specs.Sources.{other}
 use Rattle.sheets.specs.Layout.{Told}
-use Rattle.calls.specs.Calls.{After, after, joins, arrives, evicts, tries, runs, drains, lists, effect, settle, afterCall}
-use Rattle.calls.specs.Demand3.{wrote}
-use Rattle.calls.specs.Lone.{asks, Heard, heardOf, heard, only, others}
-use Rattle.calls.specs.Refusals.{verdict, sessionFits, bothClosed, roomFor, makeRoom, arrived, idle, rowChecks, roomCheck, roomIn, checks}
-use Rattle.calls.specs.Rounds.{Lent}
-use Rattle.calls.specs.World.{World, pick, same, countOf, withLone, withPlace, flush, store, note, shut, move, pass}
-use Rattle.calls.specs.declared.types.Places.{Places}
-use Rattle.calls.specs.declared.types.Call.{Call}
-use Rattle.calls.specs.declared.types.Call.the-variants.{Arrive, Evict, Run, Close, Drain, Lone}
-use Rattle.calls.specs.declared.types.Answer.the-variants.{Ran}
-use Rattle.calls.specs.declared.refusals.Verdict.{Verdict}
-use Rattle.calls.specs.declared.refusals.Verdict.the-variants.{Good, No}
-use Rattle.calls.specs.declared.arriving.Room.{Room}
-use Rattle.calls.specs.declared.arriving.Room.the-variants.{Enough, Flush}
-use Rattle.calls.proofs.Fitting.{Fit, positioned, fit-positions, place-within, fits-hold}
-use Rattle.calls.proofs.Seen.{both-sources, same-eq}
-use Rattle.calls.proofs.Settling.{verdict-first, verdict-rest}
-use Rattle.calls.proofs.Steps.{Sits, closed-of, sits-call}
+use Rattle.rules.specs.Calls.{After, after, joins, arrives, evicts, tries, runs, drains, lists, effect, settle, afterCall}
+use Rattle.rules.specs.Demand3.{wrote}
+use Rattle.rules.specs.Lone.{asks, Heard, heardOf, heard, only, others}
+use Rattle.rules.specs.Refusals.{verdict, sessionFits, bothClosed, roomFor, makeRoom, arrived, idle, rowChecks, roomCheck, roomIn, checks}
+use Rattle.rules.specs.Rounds.{Lent}
+use Rattle.rules.specs.World.{World, pick, same, countOf, withLone, withPlace, flush, store, note, shut, move, pass}
+use Rattle.rules.specs.declared.Places.{Places}
+use Rattle.rules.specs.declared.Call.{Call}
+use Rattle.rules.specs.declared.Call.the-variants.{Arrive, Evict, Run, Close, Drain, Lone}
+use Rattle.rules.specs.declared.Answer.the-variants.{Ran}
+use Rattle.rules.specs.declared.Verdict.{Verdict}
+use Rattle.rules.specs.declared.Verdict.the-variants.{Good, No}
+use Rattle.rules.specs.declared.Room.{Room}
+use Rattle.rules.specs.declared.Room.the-variants.{Enough, Flush}
+use Rattle.rules.proofs.Fitting.{Fit, positioned, fit-positions, place-within, fits-hold}
+use Rattle.rules.proofs.Seen.{both-sources, same-eq}
+use Rattle.rules.proofs.Settling.{verdict-first, verdict-rest}
+use Rattle.rules.proofs.Steps.{Sits, closed-of, sits-call}
 
 -- ---- calls that see a part of the box only
 

@@ -21,23 +21,23 @@ use Rattle.sheets.proofs.Alone.{lone-parts}
 use Rattle.sheets.proofs.Handing.{read-told, Parts}
 use Rattle.sheets.proofs.Laws.{pair-words}
 use Rattle.sheets.proofs.Rises.{drain-parts}
-use Rattle.calls.specs.Answers.{pairsOf}
-use Rattle.calls.specs.Calls.{After, after, joins, arrives, evicts, tries, runs, owed, drains, alone, lists, effect, settle, afterCall}
-use Rattle.calls.specs.Demand3.{wrote}
-use Rattle.calls.specs.Refusals.{verdict, tryChecks, roomFor, makeRoom, arrived, idle, ran, bothClosed, portionChecks, roomIn, checks}
-use Rattle.calls.specs.World.{World, countOf, sheetOf, closedOf, rowsOf, seenFrom, itemsFrom, placeOf, flush, shut, move, pass}
-use Rattle.calls.specs.declared.types.Call.{Call}
-use Rattle.calls.specs.declared.types.Call.the-variants.{Arrive, Evict, Run, Close, Drain, Lone}
-use Rattle.calls.specs.declared.types.Answer.the-variants.{Ran, More, Done, MoreLone, DoneLone}
-use Rattle.calls.specs.declared.refusals.Verdict.{Verdict}
-use Rattle.calls.specs.declared.refusals.Verdict.the-variants.{Good, No}
-use Rattle.calls.specs.declared.arriving.Room.{Room}
-use Rattle.calls.specs.declared.arriving.Room.the-variants.{Enough, Flush}
-use Rattle.calls.proofs.Arrivals.{count-room}
-use Rattle.calls.proofs.Owing.{Sound, sound-flush, sound-store, sound-note, sound-shut, sound-move, sound-pass}
-use Rattle.calls.proofs.Fitting.{Fit, rows-fit, row-fits, fit-flush, fit-store, listable, fit-note, fit-shut, fit-move, fit-pass}
-use Rattle.calls.proofs.Seen.{both-sources, Extent, Listable, flush-seen}
-use Rattle.calls.proofs.Settling.{either, verdict-first, verdict-rest}
+use Rattle.rules.specs.Answers.{pairsOf}
+use Rattle.rules.specs.Calls.{After, after, joins, arrives, evicts, tries, runs, owed, drains, alone, lists, effect, settle, afterCall}
+use Rattle.rules.specs.Demand3.{wrote}
+use Rattle.rules.specs.Refusals.{verdict, tryChecks, roomFor, makeRoom, arrived, idle, ran, bothClosed, portionChecks, roomIn, checks}
+use Rattle.rules.specs.World.{World, countOf, sheetOf, closedOf, rowsOf, seenFrom, itemsFrom, placeOf, flush, shut, move, pass}
+use Rattle.rules.specs.declared.Call.{Call}
+use Rattle.rules.specs.declared.Call.the-variants.{Arrive, Evict, Run, Close, Drain, Lone}
+use Rattle.rules.specs.declared.Answer.the-variants.{Ran, More, Done, MoreLone, DoneLone}
+use Rattle.rules.specs.declared.Verdict.{Verdict}
+use Rattle.rules.specs.declared.Verdict.the-variants.{Good, No}
+use Rattle.rules.specs.declared.Room.{Room}
+use Rattle.rules.specs.declared.Room.the-variants.{Enough, Flush}
+use Rattle.rules.proofs.Laws.{count-room}
+use Rattle.rules.proofs.Owing.{Sound, sound-flush, sound-store, sound-note, sound-shut, sound-move, sound-pass}
+use Rattle.rules.proofs.Fitting.{Fit, rows-fit, row-fits, fit-flush, fit-store, listable, fit-note, fit-shut, fit-move, fit-pass}
+use Rattle.rules.proofs.Seen.{both-sources, Extent, Listable, flush-seen}
+use Rattle.rules.proofs.Settling.{either, verdict-first, verdict-rest}
 
 -- what holds between calls
 pub record Sits (w : World) (l : List Told) : Type 0 where

@@ -14,16 +14,16 @@ use Rattle.stamps.specs.Counting.{values}
 use Rattle.stamps.specs.Stamps.Laws.{Below}
 use Rattle.sheets.specs.Layout.{Told, listNo}
 use Rattle.sheets.proofs.Noted.{list-none}
-use Rattle.calls.specs.Calls.{opens, fresh}
-use Rattle.calls.specs.Rounds.{Lent}
-use Rattle.calls.specs.Demand3.{afterCalls, opened, itemsOf}
-use Rattle.calls.specs.Refusals.{sizesFit}
-use Rattle.calls.specs.World.{World, world, countOf, placeOf, rowsOf}
-use Rattle.calls.specs.declared.types.Why.the-variants.{BadSheet}
-use Rattle.calls.specs.declared.types.Answer.the-variants.{Opened, Refused}
-use Rattle.calls.specs.declared.types.Reply.{Reply}
-use Rattle.calls.proofs.Checks.{sizes-are}
-use Rattle.calls.proofs.Steps.{Sits, sits-call}
+use Rattle.rules.specs.Calls.{opens, fresh}
+use Rattle.rules.specs.Rounds.{Lent}
+use Rattle.rules.specs.Demand3.{afterCalls, opened, itemsOf}
+use Rattle.rules.specs.Refusals.{sizesFit}
+use Rattle.rules.specs.World.{World, world, countOf, placeOf, rowsOf}
+use Rattle.rules.specs.declared.Why.the-variants.{BadSheet}
+use Rattle.rules.specs.declared.Answer.the-variants.{Opened, Refused}
+use Rattle.rules.specs.declared.Reply.{Reply}
+use Rattle.rules.proofs.Checks.{sizes-are}
+use Rattle.rules.proofs.Steps.{Sits, sits-call}
 
 no-counts : (n k : ℕ) → _≡_ {A = ℕ} (getD (replicate n 0) k 0) 0
 no-counts zero k = refl

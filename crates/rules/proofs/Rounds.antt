@@ -12,15 +12,15 @@ use borrow.Author.Tests.{le-leb, lt-leb, ne-eqb}
 use Rattle.stamps.specs.Counting.Laws.{tests}
 use Rattle.sheets.specs.Layout.{Told}
 use Rattle.sheets.proofs.Handing.{take-map}
-use Rattle.calls.specs.Calls.{After, afterCall}
-use Rattle.calls.specs.Demand3.{wrote, afterCalls}
-use Rattle.calls.specs.Refusals.{verdict, bothClosed, drainChecks, roomIn}
-use Rattle.calls.specs.Rounds.{again, Rooms, saying, Handed, ceil, sayingAt}
-use Rattle.calls.specs.World.{World}
-use Rattle.calls.specs.declared.types.Call.{Call}
-use Rattle.calls.specs.declared.types.Answer.{Answer}
-use Rattle.calls.specs.declared.refusals.Verdict.the-variants.{Good}
-use Rattle.calls.proofs.Fitting.{Fit, fits-hold}
+use Rattle.rules.specs.Calls.{After, afterCall}
+use Rattle.rules.specs.Demand3.{wrote, afterCalls}
+use Rattle.rules.specs.Refusals.{verdict, bothClosed, drainChecks, roomIn}
+use Rattle.rules.specs.Rounds.{again, Rooms, saying, Handed, ceil, sayingAt}
+use Rattle.rules.specs.World.{World}
+use Rattle.rules.specs.declared.Call.{Call}
+use Rattle.rules.specs.declared.Answer.{Answer}
+use Rattle.rules.specs.declared.Verdict.the-variants.{Good}
+use Rattle.rules.proofs.Fitting.{Fit, fits-hold}
 
 -- ---- one call
 

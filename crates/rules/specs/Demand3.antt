@@ -16,15 +16,15 @@ use Rattle.stamps.specs.Stamps.{inMemory}
 use Rattle.sheets.specs.Joins.{isPair, times, missing}
 use Rattle.sheets.specs.Layout.{Told, roomOf}
 use Rattle.sheets.specs.Pairs.{pairsAt}
-use Rattle.calls.specs.Answers.{pairsOf, refused}
-use Rattle.calls.specs.Calls.{After, afterCall, opens}
-use Rattle.calls.specs.Refusals.{bothClosed}
-use Rattle.calls.specs.Rounds.{Lent, again, Rooms, Handed, sayingAt}
-use Rattle.calls.specs.World.{World, same, countOf, rowsOf, seenFrom}
-use Rattle.calls.specs.declared.types.Call.{Call}
-use Rattle.calls.specs.declared.types.Call.the-variants.{Arrive, Evict, Run, Close, Drain, Lone}
-use Rattle.calls.specs.declared.types.Why.the-variants.{BadSheet}
-use Rattle.calls.specs.declared.types.Answer.the-variants.{Opened, More, Done, Refused}
+use Rattle.rules.specs.Answers.{pairsOf, refused}
+use Rattle.rules.specs.Calls.{After, afterCall, opens}
+use Rattle.rules.specs.Refusals.{bothClosed}
+use Rattle.rules.specs.Rounds.{Lent, again, Rooms, Handed, sayingAt}
+use Rattle.rules.specs.World.{World, same, countOf, rowsOf, seenFrom}
+use Rattle.rules.specs.declared.Call.{Call}
+use Rattle.rules.specs.declared.Call.the-variants.{Arrive, Evict, Run, Close, Drain, Lone}
+use Rattle.rules.specs.declared.Why.the-variants.{BadSheet}
+use Rattle.rules.specs.declared.Answer.the-variants.{Opened, More, Done, Refused}
 
 -- ---- calls, one after the other
 

@@ -13,9 +13,9 @@ use Rattle.sheets.specs.Lists.{listOf}
 use Rattle.sheets.specs.Rows.{portionRows, flushed, lay}
 use Rattle.sheets.specs.Lones.{Items, itemsIn}
 use Rattle.sheets.specs.Pairs.{Side, Table}
-use Rattle.calls.specs.declared.types.Feed.{Feed}
-use Rattle.calls.specs.declared.types.Places.{Places}
-use Rattle.calls.specs.declared.types.Session.{Session}
+use Rattle.rules.specs.declared.Feed.{Feed}
+use Rattle.rules.specs.declared.Places.{Places}
+use Rattle.rules.specs.declared.Session.{Session}
 
 -- all that a call is given but its arguments and its output
 pub record World : Type 0 where

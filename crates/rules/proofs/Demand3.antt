@@ -20,27 +20,27 @@ use Rattle.sheets.specs.Joins.{inside, done, numbers, isPair, times}
 use Rattle.sheets.specs.Layout.{Told, roomOf}
 use Rattle.sheets.specs.Pairs.{position, tellOf, told}
 use Rattle.sheets.proofs.Rises.{missing-owed, drain-parts, owed-after, position-inside}
-use Rattle.calls.specs.Answers.{codeOf}
-use Rattle.calls.specs.Calls.{After, owed, drains, effect, settle, afterCall, opens}
-use Rattle.calls.specs.Rounds.{Handed, sayingAt, Lent}
-use Rattle.calls.specs.Demand3.{wrote, opened, ForAnyCalls, accepted, itemsOf, pairOf, owes, left, Demand3, now, written}
-use Rattle.calls.specs.Refusals.{Check, verdict, tryChecks, sessionFits, bothClosed, idle, roomIn, checks}
-use Rattle.calls.specs.World.{World, countOf, rowsOf, seenFrom, move}
-use Rattle.calls.specs.declared.types.Call.{Call}
-use Rattle.calls.specs.declared.types.Call.the-variants.{Arrive, Evict, Run, Close, Drain, Lone}
-use Rattle.calls.specs.declared.types.Why.the-variants.{BadSheet}
-use Rattle.calls.specs.declared.types.Answer.the-variants.{Opened, More, Done, Refused}
-use Rattle.calls.specs.declared.refusals.Verdict.{Verdict}
-use Rattle.calls.specs.declared.refusals.Verdict.the-variants.{Good, No}
-use Rattle.calls.proofs.Accepted.{calls-accept}
-use Rattle.calls.proofs.Fitting.{Fit, fits-hold, fit-move}
-use Rattle.calls.proofs.Laps.{of-one-lap}
-use Rattle.calls.proofs.Laws.{refused-by}
-use Rattle.calls.proofs.Moments.{sits-opened, no-items, sits-calls}
-use Rattle.calls.proofs.Rounds.{said-last, Gives, gives-first, handed, rounds, Shut, shut-good}
-use Rattle.calls.proofs.Owing.{isOut}
-use Rattle.calls.proofs.Settling.{settle-good}
-use Rattle.calls.proofs.Steps.{Sits, drain-wrote, sits-call}
+use Rattle.rules.specs.Answers.{codeOf}
+use Rattle.rules.specs.Calls.{After, owed, drains, effect, settle, afterCall, opens}
+use Rattle.rules.specs.Rounds.{Handed, sayingAt, Lent}
+use Rattle.rules.specs.Demand3.{wrote, opened, ForAnyCalls, accepted, itemsOf, pairOf, owes, left, Demand3, now, written}
+use Rattle.rules.specs.Refusals.{Check, verdict, tryChecks, sessionFits, bothClosed, idle, roomIn, checks}
+use Rattle.rules.specs.World.{World, countOf, rowsOf, seenFrom, move}
+use Rattle.rules.specs.declared.Call.{Call}
+use Rattle.rules.specs.declared.Call.the-variants.{Arrive, Evict, Run, Close, Drain, Lone}
+use Rattle.rules.specs.declared.Why.the-variants.{BadSheet}
+use Rattle.rules.specs.declared.Answer.the-variants.{Opened, More, Done, Refused}
+use Rattle.rules.specs.declared.Verdict.{Verdict}
+use Rattle.rules.specs.declared.Verdict.the-variants.{Good, No}
+use Rattle.rules.proofs.Accepted.{calls-accept}
+use Rattle.rules.proofs.Fitting.{Fit, fits-hold, fit-move}
+use Rattle.rules.proofs.Laps.{of-one-lap}
+use Rattle.rules.proofs.Laws.{refused-by}
+use Rattle.rules.proofs.Moments.{sits-opened, no-items, sits-calls}
+use Rattle.rules.proofs.Rounds.{said-last, Gives, gives-first, handed, rounds, Shut, shut-good}
+use Rattle.rules.proofs.Owing.{isOut}
+use Rattle.rules.proofs.Settling.{settle-good}
+use Rattle.rules.proofs.Steps.{Sits, drain-wrote, sits-call}
 
 -- ---- a and b
 

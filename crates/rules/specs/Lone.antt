@@ -11,16 +11,16 @@ use Rattle.stamps.specs.Counting.{bit, keep}
 use Rattle.sheets.specs.Layout.{Single, singleRoom, singleAt}
 use Rattle.sheets.specs.Lones.{isSingle, listings, unlisted}
 use Rattle.sheets.specs.Rooms.{readAll}
-use Rattle.calls.specs.Answers.{singlesOf}
-use Rattle.calls.specs.Calls.{After, afterCall}
-use Rattle.calls.specs.Demand3.{afterCalls, now}
-use Rattle.calls.specs.Refusals.{bothClosed}
-use Rattle.calls.specs.Rounds.{Lent, again, Rooms, Handed, sayingAt}
-use Rattle.calls.specs.World.{World, same, itemsFrom}
-use Rattle.calls.specs.declared.types.Call.{Call}
-use Rattle.calls.specs.declared.types.Call.the-variants.{Arrive, Evict, Run, Close, Drain, Lone}
-use Rattle.calls.specs.declared.types.Answer.{Answer}
-use Rattle.calls.specs.declared.types.Answer.the-variants.{MoreLone, DoneLone}
+use Rattle.rules.specs.Answers.{singlesOf}
+use Rattle.rules.specs.Calls.{After, afterCall}
+use Rattle.rules.specs.Demand3.{afterCalls, now}
+use Rattle.rules.specs.Refusals.{bothClosed}
+use Rattle.rules.specs.Rounds.{Lent, again, Rooms, Handed, sayingAt}
+use Rattle.rules.specs.World.{World, same, itemsFrom}
+use Rattle.rules.specs.declared.Call.{Call}
+use Rattle.rules.specs.declared.Call.the-variants.{Arrive, Evict, Run, Close, Drain, Lone}
+use Rattle.rules.specs.declared.Answer.{Answer}
+use Rattle.rules.specs.declared.Answer.the-variants.{MoreLone, DoneLone}
 
 -- ---- the rows that were listed
 

@@ -1,24 +1,16 @@
--- What the checks have seen to, and the laws of checks in order.
+-- What number 1 has seen to.
 -- Assumes nothing.
 use mathlib.Core.Path.{_≡_}
-use mathlib.Core.Bool.{Bool, true, false}
+use mathlib.Core.Bool.{true}
 use mathlib.Core.List.{List}
-use Prim.Native.Nat.{ℕ, zero, suc, _*_, _^_, _≤_, _<_}
-use native.Mathlib.Nat.{le-trans, mul-le-mul-left, mul-le-mul-right}
+use Prim.Native.Nat.{ℕ, zero, suc, _*_, _≤_, _<_}
 use native.Mathlib.Omega.{arith}
 use lib.Dec.{leb}
 use lib.ListN.{getD}
 use Rattle.stamps.specs.Counting.Laws.{tests, one-more, both, Each, each}
-use Rattle.calls.specs.Refusals.{between, sizeTests, sizesFit, numberTests, numbersFit, countsFit, sessionFits}
-use Rattle.calls.specs.Work.{Sizes, Fits}
-use Rattle.calls.specs.declared.types.Session.{Session}
-
--- the product of two words
-pub product-fits : (x y : ℕ) → x < 2 ^ 32 → y < 2 ^ 32 → x * y < 2 ^ 64
-product-fits x y h b =
-    let low : x ≤ 4294967295 = omega arith in
-    let high : y ≤ 4294967295 = omega arith in
-    let e : x * y ≤ 4294967295 * 4294967295 = le-trans (mul-le-mul-left x high) (mul-le-mul-right 4294967295 low) in omega arith
+use Rattle.rules.specs.Refusals.{between, sizeTests, sizesFit, numberTests, numbersFit, countsFit, sessionFits}
+use Rattle.rules.specs.Fits.{Sizes, Fits}
+use Rattle.rules.specs.declared.Session.{Session}
 
 -- ---- number 1, taken apart
 
@@ -57,19 +49,3 @@ fits-are t a b probe h =
       b-lone = omega (arith, tests);
       short = counts-are (t .counts) (2 * t .parts) (q .1);
     }
-
--- the three ways through `session_fits`
-module _ (t : Session) (a b probe : ℕ) where
-  pub session-sizes : sizesFit (t .parts) (t .slots) (t .limit) a b probe ≡ false → false ≡ sessionFits t a b probe
-  unfolding sessionFits
-  session-sizes e = rw e
-
-  pub session-numbers : sizesFit (t .parts) (t .slots) (t .limit) a b probe ≡ true → numbersFit (t .limit) (t .clock) (t .a .rows) (t .b .rows) (t .next) (t .lone) ≡ false
-      → false ≡ sessionFits t a b probe
-  unfolding sessionFits
-  session-numbers e f = rw (e, f)
-
-  pub session-good : (r : Bool) → sizesFit (t .parts) (t .slots) (t .limit) a b probe ≡ true → numbersFit (t .limit) (t .clock) (t .a .rows) (t .b .rows) (t .next) (t .lone) ≡ true
-      → r ≡ countsFit (t .counts) (2 * t .parts) → r ≡ sessionFits t a b probe
-  unfolding sessionFits
-  session-good r e f g = rw (e, f) g

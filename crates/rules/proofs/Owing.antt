@@ -21,10 +21,10 @@ use Rattle.sheets.specs.Rows.{latest}
 use Rattle.sheets.proofs.Handing.{Parts}
 use Rattle.sheets.proofs.Rises.{drain-tells}
 use Rattle.sheets.proofs.Changes.{out, out-swap, Under, under-more, withA, flush-under, flush-out, store-under, store-out, latest-under, note-under, note-out}
-use Rattle.calls.specs.Calls.{owed}
-use Rattle.calls.specs.Refusals.{arrived, ran}
-use Rattle.calls.specs.World.{World, countOf, sheetOf, closedOf, rowsOf, sideOf, seenFrom, flush, store, note, shut, move, pass}
-use Rattle.calls.proofs.Seen.{both-sources, Seen, seen-from, flush-seen, store-seen, Listable, note-seen}
+use Rattle.rules.specs.Calls.{owed}
+use Rattle.rules.specs.Refusals.{arrived, ran}
+use Rattle.rules.specs.World.{World, countOf, sheetOf, closedOf, rowsOf, sideOf, seenFrom, flush, store, note, shut, move, pass}
+use Rattle.rules.proofs.Seen.{both-sources, Seen, seen-from, flush-seen, store-seen, Listable, note-seen}
 
 -- written by now
 abbrev pub isOut : World → Told → Bool

@@ -20,23 +20,23 @@ use Rattle.sheets.specs.Pairs.{Side}
 use Rattle.sheets.specs.Rows.{flushed}
 use Rattle.sheets.proofs.Changes.{items, newRow, flushedSide, storedSide}
 use Rattle.sheets.proofs.Laws.{flushed-item}
-use Rattle.calls.specs.Answers.{refused}
-use Rattle.calls.specs.Calls.{after, arrives, joins, evicts, tries, runs, drains, lists, effect, settle, afterCall}
-use Rattle.calls.specs.Rounds.{Lent}
-use Rattle.calls.specs.Demand3.{afterCalls, offered, accepted, itemsOf}
-use Rattle.calls.specs.Refusals.{verdict, roomFor, makeRoom, idle, roomIn, checks}
-use Rattle.calls.specs.World.{World, same, countOf, sheetOf, sideOf, flush, store, note, shut, move, pass}
-use Rattle.calls.specs.declared.types.Call.{Call}
-use Rattle.calls.specs.declared.types.Call.the-variants.{Arrive, Evict, Run, Close, Drain, Lone}
-use Rattle.calls.specs.declared.types.Answer.the-variants.{Ran}
-use Rattle.calls.specs.declared.refusals.Verdict.{Verdict}
-use Rattle.calls.specs.declared.refusals.Verdict.the-variants.{Good, No}
-use Rattle.calls.specs.declared.arriving.Room.{Room}
-use Rattle.calls.specs.declared.arriving.Room.the-variants.{Enough, Flush}
-use Rattle.calls.proofs.Fitting.{rows-fit}
-use Rattle.calls.proofs.Laws.{accepts}
-use Rattle.calls.proofs.Seen.{both-sources, same-own, same-facing, flush-seen, store-seen}
-use Rattle.calls.proofs.Steps.{Sits, sits-call, row-space}
+use Rattle.rules.specs.Answers.{refused}
+use Rattle.rules.specs.Calls.{after, arrives, joins, evicts, tries, runs, drains, lists, effect, settle, afterCall}
+use Rattle.rules.specs.Rounds.{Lent}
+use Rattle.rules.specs.Demand3.{afterCalls, offered, accepted, itemsOf}
+use Rattle.rules.specs.Refusals.{verdict, roomFor, makeRoom, idle, roomIn, checks}
+use Rattle.rules.specs.World.{World, same, countOf, sheetOf, sideOf, flush, store, note, shut, move, pass}
+use Rattle.rules.specs.declared.Call.{Call}
+use Rattle.rules.specs.declared.Call.the-variants.{Arrive, Evict, Run, Close, Drain, Lone}
+use Rattle.rules.specs.declared.Answer.the-variants.{Ran}
+use Rattle.rules.specs.declared.Verdict.{Verdict}
+use Rattle.rules.specs.declared.Verdict.the-variants.{Good, No}
+use Rattle.rules.specs.declared.Room.{Room}
+use Rattle.rules.specs.declared.Room.the-variants.{Enough, Flush}
+use Rattle.rules.proofs.Fitting.{rows-fit}
+use Rattle.rules.proofs.Laws.{accepts}
+use Rattle.rules.proofs.Seen.{both-sources, same-own, same-facing, flush-seen, store-seen}
+use Rattle.rules.proofs.Steps.{Sits, sits-call, row-space}
 
 -- the items of a side, in their order
 abbrev sideItems : Side → List Item

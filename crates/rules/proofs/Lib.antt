@@ -1,0 +1,14 @@
+mod Accepted
+mod Apart
+pub mod Checks
+pub mod Demand3
+mod Fitting
+mod Laps
+pub mod Laws
+pub mod Lone
+mod Moments
+mod Owing
+mod Rounds
+mod Seen
+pub mod Settling
+mod Steps
