@@ -25,7 +25,7 @@ use Rattle.rules.specs.Calls.{After, after, joins, arrives, effect, afterCall}
 use Rattle.rules.specs.Refusals.{verdict, sessionFits, rowChecks, roomCheck, roomFor, makeRoom, arrived, checks}
 use Rattle.rules.specs.Fits.{Fits}
 use Rattle.calls.specs.Work.{Rows, admitted, rowsAfter, Space}
-use Rattle.rules.specs.World.{World, world, pick, same, countOf, sheetOf, rowsOf, closedOf, withClock, withFeed, withSheet, flush, store}
+use Rattle.rules.specs.World.{World, world, pick, same, countOf, sheetOf, rowsOf, closedOf, withClock, withFeed, withSheet, flush, store, Sheets, lent, lengths, withRows}
 use Rattle.rules.specs.declared.Why.{Why}
 use Rattle.rules.specs.declared.Why.the-variants.{RoomShort}
 use Rattle.rules.specs.declared.Call.the-variants.{Arrive}
@@ -37,6 +37,7 @@ use Rattle.rules.proofs.Checks.{fits-are}
 use Rattle.calls.proofs.Passing.{fits-rows}
 use Rattle.rules.proofs.Laws.{count-room}
 use Rattle.rules.proofs.Settling.{settle-no, settle-good, verdict-first, verdict-rest, verdict-good, verdict-no}
+use Rattle.rules.specs.declared.Lengths.{Lengths}
 use Rattle.rules.specs.declared.Session.{Session}
 use Rattle.rules.specs.declared.Room.{Room}
 use Rattle.rules.specs.declared.Room.the-variants.{Enough, Flush}
@@ -60,7 +61,7 @@ module _ (room : Room) (s : Source) (parts : ℕ) (item : Item) (f : ℕ → Row
 
 pub stored : (s : Source) (item : Item) (w : World) (l : List ℕ)
     → l ≡ putRow (countOf w s) (record { item = item; ats = w .session .clock + 1; dts = 0 }) (sheetOf w s)
-    → withSheet s (withFeed s (record { rows = countOf w s + 1; closed = closedOf w s }) (withClock (w .session .clock + 1) (w .session))) l w ≡ store s item w
+    → world (withFeed s (record { rows = countOf w s + 1; closed = closedOf w s }) (withClock (w .session .clock + 1) (w .session))) (withSheet s l (w .sheets)) ≡ store s item w
 unfolding store
 stored s item w l e = rw (e, add-one (w .session .clock), add-one (countOf w s))
 
@@ -98,8 +99,11 @@ pub pairs-counted : (s : Source) (item : Item) (w x : World) (n : ℕ) → w ≡
 pairs-counted s item w x n e f = rw e f
 
 -- making room keeps the sheets' lengths and the rows' counts, and moves the clock by at most one row each
+none : Sheets
+none = lent [] [] []
+
 RowsOf : World → Type 0
-RowsOf w = Rows (w .session) (length (w .a)) (length (w .b))
+RowsOf w = Rows (w .session) (length (w .sheets .a)) (length (w .sheets .b))
 
 rows-made : (room : Room) (w : World) → RowsOf w → w .session .clock ≤ 16384 → RowsOf (makeRoom room w)
 unfolding RowsOf flush
@@ -132,14 +136,14 @@ length-made (Flush B q) w A = refl
 length-made (Flush B q) w B = length-lay _ _ _
 
 module _ (room : Room) (t : Session) (s : Source) (a b : List ℕ) (t′ : Session) (a′ b′ : List ℕ) (h : Space t s (length a) (length b))
-    (e : (probe : List ℕ) → world t′ a′ b′ probe ≡ makeRoom room (world t a b probe)) where
+    (e : (x : Sheets) → world t′ (withRows a′ b′ x) ≡ makeRoom room (world t (withRows a b x))) where
   pub room-rows : Rows t′ (length a′) (length b′)
   unfolding RowsOf
-  room-rows = subst RowsOf (sym (e [])) (rows-made room (world t a b []) (h .rows) (h .clock))
+  room-rows = subst RowsOf (sym (e none)) (rows-made room (world t (withRows a b none)) (h .rows) (h .clock))
 
   pub room-space : rowsNeed (pick s (t′ .a) (t′ .b) .rows + 1) ≤ length (pick s a′ b′)
-  room-space = subst (λ (w : World). rowsNeed (countOf w s + 1) ≤ length (sheetOf w s)) (sym (e []))
-      (rw (count-room room (world t a b []) s, length-made room (world t a b []) s) (own s (h .space)))
+  room-space = subst (λ (w : World). rowsNeed (countOf w s + 1) ≤ length (sheetOf w s)) (sym (e none))
+      (rw (count-room room (world t (withRows a b none)) s, length-made room (world t (withRows a b none)) s) (own s (h .space)))
     where
       own : (s : Source) → rowsNeed (pick s (t .a) (t .b) .rows + 1) ≤ pick s (length a) (length b) → rowsNeed (pick s (t .a) (t .b) .rows + 1) ≤ length (pick s a b)
       own A k = k
@@ -161,22 +165,22 @@ pub admitted-deny : (v : Verdict) (x : Item) (y : Why) → admitted v x ≡ admi
 admitted-deny Good x y e = let d : _≡_ {A = ℕ} 0 1 = cc in absurd (omega arith)
 admitted-deny (No z) x y e = cc
 
-pub arrive-space : (t : Session) (s : Source) (m : Message) (a b probe : ℕ) → verdict (rowChecks t s m a b probe) ≡ Good → Space t s a b
-arrive-space t s m a b probe h =
-    let f : sessionFits t a b probe ≡ true = not-false _ (verdict-first _ _ h) in
-    let g : Fits t a b probe = fits-are t a b probe f in
-    let k : pick s (t .a) (t .b) .rows < t .limit = leb-false _ _ (verdict-first _ _ (verdict-rest _ _ (verdict-rest _ _ (verdict-rest _ _ h)))) in
-    record { rows = fits-rows t a b probe f; clock = g .clock; space = own s k g }
+pub arrive-space : (t : Session) (s : Source) (m : Message) (k : Lengths) → verdict (rowChecks t s m k) ≡ Good → Space t s (k .a) (k .b)
+arrive-space t s m k h =
+    let f : sessionFits t k ≡ true = not-false _ (verdict-first _ _ h) in
+    let g : Fits t k = fits-are t k f in
+    let j : pick s (t .a) (t .b) .rows < t .limit = leb-false _ _ (verdict-first _ _ (verdict-rest _ _ (verdict-rest _ _ (verdict-rest _ _ h)))) in
+    record { rows = fits-rows t k f; clock = g .clock; space = own s j g }
   where
-    own : (s : Source) → pick s (t .a) (t .b) .rows < t .limit → Fits t a b probe → rowsNeed (pick s (t .a) (t .b) .rows + 1) ≤ pick s a b
-    own A k g = omega (arith, g .sizes .a-long)
-    own B k g = omega (arith, g .sizes .b-long)
+    own : (s : Source) → pick s (t .a) (t .b) .rows < t .limit → Fits t k → rowsNeed (pick s (t .a) (t .b) .rows + 1) ≤ pick s (k .a) (k .b)
+    own A j g = omega (arith, g .sizes .a-long)
+    own B j g = omega (arith, g .sizes .b-long)
 
 -- ---- the three ways through an arrival
 
 module _ (w : World) (o : List ℕ) (s : Source) (m : Message) where
   abbrev rowVerdict : Verdict
-  rowVerdict = verdict (rowChecks (w .session) s m (length (w .a)) (length (w .b)) (length (w .probe)))
+  rowVerdict = verdict (rowChecks (w .session) s m (lengths (w .sheets)))
 
   pub arrive-denied : (y : Why) → rowVerdict ≡ No y → after (Refused y) w o ≡ afterCall w o (Arrive s m)
   unfolding checks
@@ -194,7 +198,7 @@ module _ (w : World) (o : List ℕ) (s : Source) (m : Message) where
 
     settled : verdict (checks w (Arrive s m) (roomOf (length o))) ≡ verdict (roomCheck (roomOf (length o)) n ∷ [])
     unfolding checks
-    settled = verdict-good (rowChecks (w .session) s m (length (w .a)) (length (w .b)) (length (w .probe))) (roomCheck (roomOf (length o)) (length (arrived s (itemOf m) (makeRoom (roomFor w) w))) ∷ []) good
+    settled = verdict-good (rowChecks (w .session) s m (lengths (w .sheets))) (roomCheck (roomOf (length o)) (length (arrived s (itemOf m) (makeRoom (roomFor w) w))) ∷ []) good
         ∙ ap (λ (k : ℕ). verdict (roomCheck (roomOf (length o)) k ∷ [])) (sym counted)
 
     pub arrive-short : roomOf (length o) < n → after (Refused (RoomShort n)) w o ≡ afterCall w o (Arrive s m)

@@ -26,9 +26,8 @@ use Rattle.sheets.specs.declared.lists.ProbeList.{ProbeList}
 use Rattle.sheets.proofs.Laws.{latest-none, list-entries, length-list, list-small, wanted-few, product-few, pairs-from-start}
 use Rattle.rules.specs.Calls.{After, after, runs, owed, drains, effect, settle, afterCall}
 use Rattle.rules.specs.Refusals.{verdict, idle, ran, portionChecks, runChecks, checks}
-use Rattle.rules.specs.Fits.{Fits}
-use Rattle.calls.specs.Work.{Listed, worldFrom, jobFrom, taskOf, ranUpto, runSettled}
-use Rattle.rules.specs.World.{World, world, pick, countOf, rowsOf, sideOf, seenFrom, withCounts, withNext, note, move}
+use Rattle.calls.specs.Work.{Listed, worldFrom, jobFrom, taskOf, ranUpto, runSettled, Rows, Probes}
+use Rattle.rules.specs.World.{World, world, pick, countOf, rowsOf, sideOf, seenFrom, withCounts, withNext, note, move, Sheets, lengths, withProbe}
 use Rattle.rules.specs.declared.Session.{Session}
 use Rattle.rules.specs.declared.Answer.the-variants.{More, Done, Ran, Refused}
 use Rattle.rules.specs.declared.Why.{Why}
@@ -36,7 +35,7 @@ use Rattle.rules.specs.declared.Why.the-variants.{ListFull, RoomShort}
 use Rattle.rules.specs.declared.Call.the-variants.{Run}
 use Rattle.rules.specs.declared.Verdict.{Verdict}
 use Rattle.rules.specs.declared.Verdict.the-variants.{Good, No}
-use Rattle.rules.proofs.Settling.{settle-no, verdict-first, verdict-rest, verdict-good, verdict-no}
+use Rattle.rules.proofs.Settling.{settle-no, verdict-good, verdict-no}
 use Rattle.calls.specs.declared.running.Task.{Task}
 use Rattle.calls.specs.declared.running.Task.the-variants.{Idle, Crowded, Upto}
 
@@ -50,71 +49,71 @@ pick-facing B x y = refl
 
 -- ---- what crates/sheets asks
 
-pub fits-ready : (s : Source) (t : Session) (scope : Scope) (own facing probe : List ℕ) → Fits t (length (pick s own facing)) (length (pick s facing own)) (length probe)
+pub fits-ready : (s : Source) (t : Session) (scope : Scope) (own facing probe : List ℕ) → Rows t (length (pick s own facing)) (length (pick s facing own)) → Probes t (length probe)
     → Ready (jobFrom s t scope) own facing probe (t .counts)
-fits-ready A t scope own facing probe f = record {
-  own-few = omega (arith, f .a-few, f .sizes .limit);
-  facing-few = omega (arith, f .b-few, f .sizes .limit);
-  own-long = omega (arith, f .a-few, f .sizes .a-long);
-  facing-long = omega (arith, f .b-few, f .sizes .b-long);
-  some-parts = omega (arith, f .sizes .parts);
-  few-parts = f .sizes .parts .1;
-  probe-long = f .sizes .probe-long;
-  short = f .short;
+fits-ready A t scope own facing probe f g = record {
+  own-few = f .a-few;
+  facing-few = f .b-few;
+  own-long = f .a-long;
+  facing-long = f .b-long;
+  some-parts = f .some-parts;
+  few-parts = f .few-parts;
+  probe-long = g .probe-long;
+  short = g .short;
 }
-fits-ready B t scope own facing probe f = record {
-  own-few = omega (arith, f .b-few, f .sizes .limit);
-  facing-few = omega (arith, f .a-few, f .sizes .limit);
-  own-long = omega (arith, f .b-few, f .sizes .b-long);
-  facing-long = omega (arith, f .a-few, f .sizes .a-long);
-  some-parts = omega (arith, f .sizes .parts);
-  few-parts = f .sizes .parts .1;
-  probe-long = f .sizes .probe-long;
-  short = f .short;
+fits-ready B t scope own facing probe f g = record {
+  own-few = f .b-few;
+  facing-few = f .a-few;
+  own-long = f .b-long;
+  facing-long = f .a-long;
+  some-parts = f .some-parts;
+  few-parts = f .few-parts;
+  probe-long = g .probe-long;
+  short = g .short;
 }
 
 -- the table that it works on is the box, seen from the source
-pub seen-is : (s : Source) (t : Session) (scope : Scope) (own facing probe : List ℕ)
-    → tableOf (jobFrom s t scope) own facing probe (t .counts) ≡ seenFrom s (worldFrom s t own facing probe)
-seen-is A t scope own facing probe = refl
-seen-is B t scope own facing probe = refl
+pub seen-is : (s : Source) (t : Session) (scope : Scope) (own facing probe : List ℕ) (x : Sheets)
+    → tableOf (jobFrom s t scope) own facing probe (t .counts) ≡ seenFrom s (worldFrom s t own facing (withProbe probe x))
+seen-is A t scope own facing probe x = refl
+seen-is B t scope own facing probe x = refl
 
 -- ---- a drain
 
 pub drained : (w : World) (o o′ : List ℕ) (room : ℕ) (r : Written) → room ≡ roomOf (length o) → Writes A (seenFrom A w) (owed w) (w .session .next) room o o′ r
-    → after (cond (r .more) More Done (r .count)) (world (withNext (r .next) (w .session)) (w .a) (w .b) (w .probe)) o′ ≡ drains w o
+    → after (cond (r .more) More Done (r .count)) (world (withNext (r .next) (w .session)) (w .sheets)) o′ ≡ drains w o
 unfolding drains move
 drained w o o′ room r e h = rw (h .count, h .more, h .next, h .out, e)
 
 -- ---- what a run has to do
 
-module _ (s : Source) (t : Session) (own facing probe : List ℕ) (q : ℕ) where
+module _ (s : Source) (t : Session) (own facing probe : List ℕ) (x : Sheets) (q : ℕ) where
   abbrev last : ℕ
   last = latest (t .parts) q (rowAt own) (pick s (t .a) (t .b) .rows)
 
   abbrev list : List Entry
   list = listOf (t .parts) (t .counts) probe s q
 
-  task-is : taskOf (worldFrom s t own facing probe) s q ≡ cond (eqb last 0 || probedAt (t .clock) list) Idle (cond (leb 32 (length list)) Crowded (Upto last))
+  task-is : taskOf (worldFrom s t own facing (withProbe probe x)) s q ≡ cond (eqb last 0 || probedAt (t .clock) list) Idle (cond (leb 32 (length list)) Crowded (Upto last))
   task-is = rw (pick-own s own facing, ← latest-none (t .parts) q (rowAt own) (pick s (t .a) (t .b) .rows))
 
-  pub task-none : last ≡ 0 → Idle ≡ taskOf (worldFrom s t own facing probe) s q
+  pub task-none : last ≡ 0 → Idle ≡ taskOf (worldFrom s t own facing (withProbe probe x)) s q
   task-none e = rw (task-is, eq-eqb last 0 e)
 
-  pub task-probed : probedAt (t .clock) list ≡ true → Idle ≡ taskOf (worldFrom s t own facing probe) s q
+  pub task-probed : probedAt (t .clock) list ≡ true → Idle ≡ taskOf (worldFrom s t own facing (withProbe probe x)) s q
   task-probed e = rw (task-is, e, or-true)
 
   module _ (some : last ≡ 0 → ⊥) (fresh : probedAt (t .clock) list ≡ false) where
-    pub task-crowded : 32 ≤ length list → Crowded ≡ taskOf (worldFrom s t own facing probe) s q
+    pub task-crowded : 32 ≤ length list → Crowded ≡ taskOf (worldFrom s t own facing (withProbe probe x)) s q
     task-crowded h = rw (task-is, ne-eqb last 0 some, fresh, le-leb 32 (length list) h)
 
-    pub task-upto : length list < 32 → Upto last ≡ taskOf (worldFrom s t own facing probe) s q
+    pub task-upto : length list < 32 → Upto last ≡ taskOf (worldFrom s t own facing (withProbe probe x)) s q
     task-upto h = rw (task-is, ne-eqb last 0 some, fresh, lt-leb 32 (length list) h)
 
-pub own-long : (s : Source) (t : Session) (own facing probe : List ℕ) → Fits t (length (pick s own facing)) (length (pick s facing own)) (length probe)
+pub own-long : (s : Source) (t : Session) (own facing : List ℕ) → Rows t (length (pick s own facing)) (length (pick s facing own))
     → rowsNeed (pick s (t .a) (t .b) .rows) ≤ length own
-own-long A t own facing probe f = omega (arith, f .a-few, f .sizes .a-long)
-own-long B t own facing probe f = omega (arith, f .b-few, f .sizes .b-long)
+own-long A t own facing f = f .a-long
+own-long B t own facing f = f .b-long
 
 -- the list of a portion, as `list_of` names it
 pub listed : (t : Session) (probe : List ℕ) (s : Source) (q : ℕ) (l : ProbeList) → q < t .parts
@@ -129,16 +128,16 @@ pub list-place : (t : Session) (s : Source) (q probe : ℕ) (l : ProbeList) → 
     → (l .number < 32) × (getD (t .counts) (l .number) 0 < 32) × (listNeed (l .number) (l .size + 1) ≤ probe)
 list-place t s q probe l h e = rw e (omega (arith, list-small (t .parts) s q (h .in-parts), h .few-parts, h .size, h .probe-long))
 
-pub noted : (s : Source) (q last : ℕ) (t : Session) (a b probe : List ℕ) (l : ProbeList) (probe′ : List ℕ)
+pub noted : (s : Source) (q last : ℕ) (t : Session) (x : Sheets) (probe : List ℕ) (l : ProbeList) (probe′ : List ℕ)
     → l ≡ record { number = listNo (t .parts) s q; size = getD (t .counts) (listNo (t .parts) s q) 0 }
     → probe′ ≡ putEntry (l .number) (l .size) (record { last = last; probe = t .clock }) probe
-    → world (withCounts (set (t .counts) (l .number) (getD (t .counts) (l .number) 0 + 1)) t) a b probe′ ≡ note s q last (world t a b probe)
+    → world (withCounts (set (t .counts) (l .number) (getD (t .counts) (l .number) 0 + 1)) t) (withProbe probe′ x) ≡ note s q last (world t (withProbe probe x))
 unfolding note
-noted s q last t a b probe l probe′ e f = rw (f, e, add-one)
+noted s q last t x probe l probe′ e f = rw (f, e, add-one)
 
 -- ---- a run that has something to do
 
-module _ (s : Source) (t : Session) (own facing probe : List ℕ) (q n : ℕ) where
+module _ (s : Source) (t : Session) (own facing probe : List ℕ) (x : Sheets) (q n : ℕ) where
   abbrev job : Job
   job = jobFrom s t (Portion q)
 
@@ -146,14 +145,14 @@ module _ (s : Source) (t : Session) (own facing probe : List ℕ) (q n : ℕ) wh
   table = tableOf job own facing probe (t .counts)
 
   abbrev box : World
-  box = worldFrom s t own facing probe
+  box = worldFrom s t own facing (withProbe probe x)
 
   module _ (count : n ≡ length (wantedPairs (Portion q) table)) where
     ran-count : n ≡ length (ran s q box)
-    ran-count = count ∙ ap (λ (x : Table). length (wantedPairs (Portion q) x)) (seen-is s t (Portion q) own facing probe)
+    ran-count = count ∙ ap (λ (y : Table). length (wantedPairs (Portion q) y)) (seen-is s t (Portion q) own facing probe x)
 
-    pub run-few : Fits t (length (pick s own facing)) (length (pick s facing own)) (length probe) → n ≤ 16777216
-    run-few f = let r : Ready job own facing probe (t .counts) = fits-ready s t (Portion q) own facing probe f in
+    pub run-few : Rows t (length (pick s own facing)) (length (pick s facing own)) → Probes t (length probe) → n ≤ 16777216
+    run-few f g = let r : Ready job own facing probe (t .counts) = fits-ready s t (Portion q) own facing probe f g in
         omega (arith, count, wanted-few (Portion q) table, product-few (job .rows) (job .others) (r .own-few) (r .facing-few))
 
     pub run-short : (last : ℕ) (o : List ℕ) → roomOf (length o) < n → after (Refused (RoomShort n)) box o ≡ ranUpto s q last box o
@@ -161,13 +160,13 @@ module _ (s : Source) (t : Session) (own facing probe : List ℕ) (q n : ℕ) wh
 
     pub run-done : (last : ℕ) (o o′ : List ℕ) (w : World) (r : Written) → n ≤ roomOf (length o)
         → Writes s table (pairsFrom (Portion q) 0 table) 0 n o o′ r → w ≡ note s q last box → after (Ran n) w o′ ≡ ranUpto s q last box o
-    run-done last o o′ w r h x e = ap₂ (λ (y : World) (p : List ℕ). after (Ran n) y p) e (x .out ∙ all ∙ seen) ∙ rw (← ran-count, le-ltb (roomOf (length o)) n h)
+    run-done last o o′ w r h v e = ap₂ (λ (y : World) (p : List ℕ). after (Ran n) y p) e (v .out ∙ all ∙ seen) ∙ rw (← ran-count, le-ltb (roomOf (length o)) n h)
       where
         all : putFrom 0 (told s table (take n (pairsFrom (Portion q) 0 table))) o ≡ putFrom 0 (told s table (wantedPairs (Portion q) table)) o
         all = rw (pairs-from-start (Portion q) table, take-all n (wantedPairs (Portion q) table) (omega (arith, count)))
 
         seen : putFrom 0 (told s table (wantedPairs (Portion q) table)) o ≡ putFrom 0 (told s (seenFrom s box) (ran s q box)) o
-        seen = ap (λ (x : Table). putFrom 0 (told s x (wantedPairs (Portion q) x)) o) (seen-is s t (Portion q) own facing probe)
+        seen = ap (λ (y : Table). putFrom 0 (told s y (wantedPairs (Portion q) y)) o) (seen-is s t (Portion q) own facing probe x)
 
 -- ---- what a task says of the tests behind it
 
@@ -221,29 +220,26 @@ module _ (w : World) (s : Source) (q : ℕ) (o : List ℕ) where
         go false = refl
 
 -- the list has a place for one more entry
-pub upto-listed : (s : Source) (t : Session) (own facing probe : List ℕ) (q d : ℕ) → Fits t (length (pick s own facing)) (length (pick s facing own)) (length probe) → q < t .parts
-    → Upto d ≡ taskOf (worldFrom s t own facing probe) s q → Listed t s q (length probe)
-upto-listed s t own facing probe q d f h e = record {
+pub upto-listed : (s : Source) (t : Session) (own facing probe : List ℕ) (x : Sheets) (q d : ℕ) → Rows t (length (pick s own facing)) (length (pick s facing own)) → Probes t (length probe) → q < t .parts
+    → Upto d ≡ taskOf (worldFrom s t own facing (withProbe probe x)) s q → Listed t s q (length probe)
+upto-listed s t own facing probe x q d f g h e = record {
   in-parts = h;
-  few-parts = f .sizes .parts .1;
-  size = rw (length-list (t .parts) (t .counts) probe s q h) at (leb-false 32 (length (listOf (t .parts) (t .counts) probe s q)) (upto-room (worldFrom s t own facing probe) s q [] d e));
-  probe-long = f .sizes .probe-long;
+  few-parts = f .few-parts;
+  size = rw (length-list (t .parts) (t .counts) probe s q h) at (leb-false 32 (length (listOf (t .parts) (t .counts) probe s q)) (upto-room (worldFrom s t own facing (withProbe probe x)) s q [] d e));
+  probe-long = g .probe-long;
 }
 
 -- ---- a run, settled
 
 module _ (w : World) (o : List ℕ) (s : Source) (q : ℕ) where
   abbrev portionVerdict : Verdict
-  portionVerdict = verdict (portionChecks (w .session) q (length (w .a)) (length (w .b)) (length (w .probe)))
+  portionVerdict = verdict (portionChecks (w .session) q (lengths (w .sheets)))
 
   pub run-refused : (y : Why) → portionVerdict ≡ No y → after (Refused y) w o ≡ afterCall w o (Run s q)
   unfolding checks
-  run-refused y e = settle-no w o (Run s q) y (verdict-no (portionChecks (w .session) q (length (w .a)) (length (w .b)) (length (w .probe))) (runChecks w s q (roomOf (length o))) y e)
+  run-refused y e = settle-no w o (Run s q) y (verdict-no (portionChecks (w .session) q (lengths (w .sheets))) (runChecks w s q (roomOf (length o))) y e)
 
   pub run-settled : (x : After) → portionVerdict ≡ Good → x ≡ runSettled s q w o → x ≡ afterCall w o (Run s q)
   unfolding checks afterCall effect
   run-settled x e h = h ∙ ap (λ (v : Verdict). settle v w o (runs s q w o))
-      (sym (verdict-good (portionChecks (w .session) q (length (w .a)) (length (w .b)) (length (w .probe))) (runChecks w s q (roomOf (length o))) e))
-
-pub portion-small : (t : Session) (q a b probe : ℕ) → verdict (portionChecks t q a b probe) ≡ Good → q < t .parts
-portion-small t q a b probe h = leb-false (t .parts) q (verdict-first _ _ (verdict-rest _ _ h))
+      (sym (verdict-good (portionChecks (w .session) q (lengths (w .sheets))) (runChecks w s q (roomOf (length o))) e))

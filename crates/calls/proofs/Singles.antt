@@ -14,15 +14,16 @@ use Rattle.sheets.specs.declared.rooms.Written.{Written}
 use Rattle.rules.specs.Calls.{after, lists}
 use Rattle.rules.specs.Fits.{Fits}
 use Rattle.calls.specs.Work.{Rows, worldFrom}
-use Rattle.rules.specs.World.{pick, withLone, withPlace, pass}
+use Rattle.rules.specs.World.{pick, withLone, withPlace, pass, Sheets}
 use Rattle.rules.specs.declared.Answer.the-variants.{MoreLone, DoneLone}
+use Rattle.rules.specs.declared.Lengths.{Lengths}
 use Rattle.rules.specs.declared.Session.{Session}
 
 -- ---- what crates/sheets asks
 
-pub place-fits : (s : Source) (t : Session) (a b probe : ℕ) → Fits t a b probe → pick s (t .lone .a) (t .lone .b) ≤ pick s (t .a) (t .b) .rows
-place-fits A t a b probe f = f .a-lone
-place-fits B t a b probe f = f .b-lone
+pub place-fits : (s : Source) (t : Session) (k : Lengths) → Fits t k → pick s (t .lone .a) (t .lone .b) ≤ pick s (t .a) (t .b) .rows
+place-fits A t k f = f .a-lone
+place-fits B t k f = f .b-lone
 
 -- both sheets hold their rows, and these are few
 pub record Held (s : Source) (t : Session) (own facing : ℕ) : Type 0 where
@@ -42,8 +43,8 @@ itemsHeld s t own facing = itemsIn (pick s (t .a) (t .b) .rows) (pick (other s) 
 
 pub listed : (s : Source) (t t′ : Session) (own facing o o′ : List ℕ) (room : ℕ) (r : Written) → room ≡ singleRoom (length o) → let k = pick s (t .lone .a) (t .lone .b) in
     Lists (itemsHeld s t own facing) (lonesFrom k (itemsHeld s t own facing)) k room o o′ r
-    → t′ ≡ withLone (withPlace s (r .next) (t .lone)) t → (probe : List ℕ)
-    → after (cond (r .more) MoreLone DoneLone (r .count)) (worldFrom s t′ own facing probe) o′ ≡ lists s (worldFrom s t own facing probe) o
+    → t′ ≡ withLone (withPlace s (r .next) (t .lone)) t → (x : Sheets)
+    → after (cond (r .more) MoreLone DoneLone (r .count)) (worldFrom s t′ own facing x) o′ ≡ lists s (worldFrom s t own facing x) o
 unfolding lists pass
-listed A t t′ own facing o o′ room r e h f probe = rw (f, h .count, h .more, h .next, h .out, e)
-listed B t t′ own facing o o′ room r e h f probe = rw (f, h .count, h .more, h .next, h .out, e)
+listed A t t′ own facing o o′ room r e h f x = rw (f, h .count, h .more, h .next, h .out, e)
+listed B t t′ own facing o o′ room r e h f x = rw (f, h .count, h .more, h .next, h .out, e)

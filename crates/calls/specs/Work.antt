@@ -2,7 +2,7 @@
 use mathlib.Core.Path.{_≡_}
 use mathlib.Core.Bool.{cond}
 use mathlib.Core.List.{List}
-use Prim.Native.Nat.{ℕ, _+_, _≤_, _<_}
+use Prim.Native.Nat.{ℕ, _+_, _*_, _≤_, _<_}
 use lib.Dec.{ltb, leb}
 use lib.ListN.{length, getD}
 use Rattle.stamps.specs.declared.Source.{Source}
@@ -15,7 +15,7 @@ use Rattle.sheets.specs.declared.pairs.Job.{Job}
 use Rattle.sheets.specs.declared.pairs.Scope.{Scope}
 use Rattle.sheets.specs.Rows.{portionRows, latest, flushed}
 use Rattle.rules.specs.Calls.{After, after, runs, settle}
-use Rattle.rules.specs.World.{World, world, pick, same, rowsOf, countOf, sideOf, seenFrom, flush, note}
+use Rattle.rules.specs.World.{World, world, pick, same, rowsOf, countOf, sideOf, seenFrom, flush, note, Sheets, withRows}
 use Rattle.rules.specs.Refusals.{verdict, idle, ran, runChecks}
 use Rattle.rules.specs.declared.Why.the-variants.{RoomShort}
 use Rattle.rules.specs.declared.Answer.the-variants.{Ran, Refused}
@@ -39,9 +39,14 @@ pub record Rows (t : Session) (a b : ℕ) : Type 0 where
   pub a-long : rowsNeed (t .a .rows) ≤ a
   pub b-long : rowsNeed (t .b .rows) ≤ b
 
+-- and of the lists: counts that passed number 1, and a probe sheet of this length
+pub record Probes (t : Session) (probe : ℕ) : Type 0 where
+  pub probe-long : probeNeed (t .parts) ≤ probe
+  pub short : (k : ℕ) → k < 2 * t .parts → getD (t .counts) k 0 ≤ 32
+
 -- a portion flushed: the record, the rows flushed, and the sheets
 pub record Clears (s : Source) (q : ℕ) (t : Session) (a b : List ℕ) (t′ : Session) (n : ℕ) (a′ b′ : List ℕ) : Type 0 where
-  pub worlds : (probe : List ℕ) → world t′ a′ b′ probe ≡ flush s q (world t a b probe)
+  pub worlds : (x : Sheets) → world t′ (withRows a′ b′ x) ≡ flush s q (world t (withRows a b x))
   pub count : n ≡ portionRows (t .parts) q (rowAt (pick s a b)) (pick s (t .a) (t .b) .rows)
 
 -- ---- an arrival
@@ -64,9 +69,9 @@ pub record Space (t : Session) (s : Source) (a b : ℕ) : Type 0 where
 
 -- ---- a run, seen from its source: own is the sheet of the source, facing that of the other
 
--- a record and sheets, the source's own first
-abbrev pub worldFrom : Source → Session → List ℕ → List ℕ → List ℕ → World
-worldFrom s t own facing probe = world t (pick s own facing) (pick s facing own) probe
+-- a record and sheets, of which the row sheets are these, the source's own first
+abbrev pub worldFrom : Source → Session → List ℕ → List ℕ → Sheets → World
+worldFrom s t own facing x = world t (withRows (pick s own facing) (pick s facing own) x)
 
 -- its job for crates/sheets
 abbrev pub jobFrom : Source → Session → Scope → Job

@@ -5,6 +5,7 @@ use crate::feeds::with_feed;
 use crate::refusals::session_fits;
 use rules::Answer;
 use rules::Feed;
+use rules::Lengths;
 use rules::Reply;
 use rules::Room;
 use rules::Session;
@@ -22,7 +23,6 @@ use stamps::Message;
 use stamps::Row;
 use stamps::Source;
 ghost use mathlib.Core.Path.{_≡_};
-ghost use mathlib.Core.List.{List};
 ghost use Prim.Native.Nat.{ℕ, _+_, _≤_, _<_};
 ghost use lib.ListN.{length};
 ghost use Rattle.stamps.specs.Keys.{itemOf};
@@ -34,7 +34,7 @@ ghost use Rattle.rules.specs.declared.Call.the-variants.{Arrive};
 ghost use Rattle.rules.specs.Calls.{leaves, joins, afterCall};
 ghost use Rattle.rules.specs.Refusals.{verdict, rowChecks, roomFor, makeRoom, arrived};
 ghost use Rattle.calls.specs.Work.{Rows, admitted, rowsAfter, Space};
-ghost use Rattle.rules.specs.World.{world, same, rowsOf, pick, store};
+ghost use Rattle.rules.specs.World.{world, same, rowsOf, pick, store, Sheets, lent, withRows};
 
 // What the checks before the pairs find.
 pub enum Admission {
@@ -43,17 +43,10 @@ pub enum Admission {
 }
 
 // Numbers 1, 2, 4 and 5.
-fn admit(
-    session: Session,
-    source: Source,
-    message: Message,
-    a: usize,
-    b: usize,
-    probe: usize,
-) -> Admission
-    ensures { λ r. ⌜ r ≡ admitted (verdict (rowChecks session source message a b probe)) (itemOf message) ⌝ }
+fn admit(session: Session, source: Source, message: Message, sizes: Lengths) -> Admission
+    ensures { λ r. ⌜ r ≡ admitted (verdict (rowChecks session source message sizes)) (itemOf message) ⌝ }
 {
-    if !session_fits(session, a, b, probe) {
+    if !session_fits(session, sizes) {
         return Admission::Deny(Why::BadSheet);
     }
     let Made::Good(item) = stamps::item_of(message) else {
@@ -72,7 +65,7 @@ fn admit(
 // Is memory full, and what goes then?
 fn find_room(session: Session, a: &[u32], b: &[u32]) -> Room
     requires { ⌜ Rows session (length (now a)) (length (now b)) ⌝ }
-    ensures { λ r. ⌜ ((probe : List ℕ) → r ≡ roomFor (world session (now (a .entry)) (now (b .entry)) probe)) ⌝ }
+    ensures { λ r. ⌜ ((x : Sheets) → r ≡ roomFor (world session (withRows (now (a .entry)) (now (b .entry)) x))) ⌝ }
 {
     let a_rows = session.a.rows as usize;
     let b_rows = session.b.rows as usize;
@@ -127,7 +120,7 @@ fn count_new(
 // Makes room, and hands back the session with its clock.
 fn make_room(session: Session, room: Room, a: &mut [u32], b: &mut [u32]) -> Session
     requires { ⌜ Rows session (length (now a)) (length (now b)) ⌝ }
-    ensures { λ r. ⌜ ((probe : List ℕ) → world r (now (a .exit)) (now (b .exit)) probe ≡ makeRoom room (world session (now (a .entry)) (now (b .entry)) probe)) ⌝ }
+    ensures { λ r. ⌜ ((x : Sheets) → world r (withRows (now (a .exit)) (now (b .exit)) x) ≡ makeRoom room (world session (withRows (now (a .entry)) (now (b .entry)) x))) ⌝ }
 {
     match room {
         Room::Enough => session,
@@ -141,7 +134,7 @@ fn make_room(session: Session, room: Room, a: &mut [u32], b: &mut [u32]) -> Sess
 // Stores the row, and hands back the session with its clock and the row counted.
 fn store_row(session: Session, source: Source, item: Item, a: &mut [u32], b: &mut [u32]) -> Session
     requires { ⌜ Rows session (length (now a)) (length (now b)) × (rowsNeed (pick source (session .a) (session .b) .rows + 1) ≤ length (pick source (now a) (now b))) ⌝ }
-    ensures { λ r. ⌜ ((probe : List ℕ) → world r (now (a .exit)) (now (b .exit)) probe ≡ store source item (world session (now (a .entry)) (now (b .entry)) probe)) ⌝ }
+    ensures { λ r. ⌜ ((x : Sheets) → world r (withRows (now (a .exit)) (now (b .exit)) x) ≡ store source item (world session (withRows (now (a .entry)) (now (b .entry)) x))) ⌝ }
 {
     let feed = feed_of(session, source);
     let rows = feed.rows;
@@ -180,7 +173,7 @@ fn count_pairs(
     b: &[u32],
 ) -> usize
     requires { ⌜ Rows session (length (now a)) (length (now b)) ⌝ }
-    ensures { λ r. ⌜ ((probe : List ℕ) → r ≡ length (arrived source item (makeRoom room (world session (now (a .entry)) (now (b .entry)) probe)))) × (r ≤ 4096) ⌝ }
+    ensures { λ r. ⌜ ((x : Sheets) → r ≡ length (arrived source item (makeRoom room (world session (withRows (now (a .entry)) (now (b .entry)) x))))) × (r ≤ 4096) ⌝ }
 {
     let parts = session.parts;
     match source {
@@ -199,8 +192,8 @@ fn write_pairs(
     b: &[u32],
     out: &mut [u32],
 )
-    requires { ⌜ Rows session (length (now a)) (length (now b)) × ((probe : List ℕ) → n ≡ length (arrived source item (world session (now a) (now b) probe))) × (pairsNeed n ≤ length (now out)) ⌝ }
-    ensures { λ _. ⌜ ((probe : List ℕ) → let w = world session (now (a .entry)) (now (b .entry)) probe in now (out .exit) ≡ putFrom 0 (tellAll source (λ i. item) (λ j. rowsOf w (other source) j .item) (arrived source item w)) (now (out .entry))) ⌝ }
+    requires { ⌜ Rows session (length (now a)) (length (now b)) × ((x : Sheets) → n ≡ length (arrived source item (world session (withRows (now a) (now b) x)))) × (pairsNeed n ≤ length (now out)) ⌝ }
+    ensures { λ _. ⌜ ((x : Sheets) → let w = world session (withRows (now (a .entry)) (now (b .entry)) x) in now (out .exit) ≡ putFrom 0 (tellAll source (λ i. item) (λ j. rowsOf w (other source) j .item) (arrived source item w)) (now (out .entry))) ⌝ }
 {
     let a_rows = session.a.rows;
     let b_rows = session.b.rows;
@@ -221,8 +214,8 @@ fn take_row(
     b: &mut [u32],
     out: &mut [u32],
 ) -> Reply
-    requires { ⌜ Space session source (length (now a)) (length (now b)) × ((probe : List ℕ) → n ≡ length (arrived source item (makeRoom room (world session (now a) (now b) probe)))) × (pairsNeed n ≤ length (now out)) ⌝ }
-    ensures { λ r. ⌜ ((probe : List ℕ) → leaves r (now (a .exit)) (now (b .exit)) probe (now (out .exit)) ≡ joins source item (makeRoom room (world session (now (a .entry)) (now (b .entry)) probe)) (now (out .entry))) ⌝ }
+    requires { ⌜ Space session source (length (now a)) (length (now b)) × ((x : Sheets) → n ≡ length (arrived source item (makeRoom room (world session (withRows (now a) (now b) x))))) × (pairsNeed n ≤ length (now out)) ⌝ }
+    ensures { λ r. ⌜ ((x : Sheets) → leaves r (withRows (now (a .exit)) (now (b .exit)) x) (now (out .exit)) ≡ joins source item (makeRoom room (world session (withRows (now (a .entry)) (now (b .entry)) x))) (now (out .entry))) ⌝ }
 {
     let t = make_room(session, room, a, b);
     write_pairs(t, source, item, n as usize, a, b, out);
@@ -242,9 +235,14 @@ pub fn arrive(
     probe: &[u32],
     out: &mut [u32],
 ) -> Reply
-    ensures { λ r. ⌜ leaves r (now (a .exit)) (now (b .exit)) (now (probe .entry)) (now (out .exit)) ≡ afterCall (world session (now (a .entry)) (now (b .entry)) (now (probe .entry))) (now (out .entry)) (Arrive source message) ⌝ }
+    ensures { λ r. ⌜ leaves r (lent (now (a .exit)) (now (b .exit)) (now (probe .entry))) (now (out .exit)) ≡ afterCall (world session (lent (now (a .entry)) (now (b .entry)) (now (probe .entry)))) (now (out .entry)) (Arrive source message) ⌝ }
 {
-    match admit(session, source, message, a.len(), b.len(), probe.len()) {
+    let sizes = Lengths {
+        a: a.len(),
+        b: b.len(),
+        probe: probe.len(),
+    };
+    match admit(session, source, message, sizes) {
         Admission::Deny(why) => Reply {
             answer: Answer::Refused(why),
             session,

@@ -4,6 +4,7 @@ use crate::feeds::with_feed;
 use crate::refusals::check_close;
 use rules::Answer;
 use rules::Feed;
+use rules::Lengths;
 use rules::Reply;
 use rules::Session;
 use rules::Verdict;
@@ -13,12 +14,17 @@ ghost use mathlib.Core.List.{List};
 ghost use Prim.Native.Nat.{ℕ};
 ghost use Rattle.rules.specs.declared.Call.the-variants.{Close};
 ghost use Rattle.rules.specs.Calls.{leaves, afterCall};
-ghost use Rattle.rules.specs.World.{world};
+ghost use Rattle.rules.specs.World.{world, lent};
 
 pub fn close(session: Session, source: Source, a: &[u32], b: &[u32], probe: &[u32]) -> Reply
-    ensures { λ r. ⌜ ((out : List ℕ) → leaves r (now (a .entry)) (now (b .entry)) (now (probe .entry)) out ≡ afterCall (world session (now (a .entry)) (now (b .entry)) (now (probe .entry))) out (Close source)) ⌝ }
+    ensures { λ r. ⌜ ((out : List ℕ) → leaves r (lent (now (a .entry)) (now (b .entry)) (now (probe .entry))) out ≡ afterCall (world session (lent (now (a .entry)) (now (b .entry)) (now (probe .entry)))) out (Close source)) ⌝ }
 {
-    match check_close(session, source, a.len(), b.len(), probe.len()) {
+    let sizes = Lengths {
+        a: a.len(),
+        b: b.len(),
+        probe: probe.len(),
+    };
+    match check_close(session, source, sizes) {
         Verdict::No(why) => Reply {
             answer: Answer::Refused(why),
             session,

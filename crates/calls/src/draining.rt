@@ -1,6 +1,7 @@
 // A drain: the pairs that are still owed, as many as the room holds.
 use crate::refusals::check_drain;
 use rules::Answer;
+use rules::Lengths;
 use rules::Reply;
 use rules::Session;
 use rules::Verdict;
@@ -14,8 +15,9 @@ ghost use lib.ListN.{length};
 ghost use Rattle.sheets.specs.Layout.{roomOf};
 ghost use Rattle.rules.specs.declared.Call.the-variants.{Drain};
 ghost use Rattle.rules.specs.Calls.{leaves, drains, afterCall};
-ghost use Rattle.rules.specs.Fits.{Fits};
-ghost use Rattle.rules.specs.World.{world};
+ghost use Prim.Native.Nat.{_*_, _≤_};
+ghost use Rattle.calls.specs.Work.{Rows, Probes};
+ghost use Rattle.rules.specs.World.{world, lent};
 
 // A drain that is not refused.
 fn write_owed(
@@ -26,8 +28,8 @@ fn write_owed(
     out: &mut [u32],
     room: usize,
 ) -> Reply
-    requires { ⌜ Fits session (length (now a)) (length (now b)) (length (now probe)) × (room ≡ roomOf (length (now out))) ⌝ }
-    ensures { λ r. ⌜ leaves r (now (a .entry)) (now (b .entry)) (now (probe .entry)) (now (out .exit)) ≡ drains (world session (now (a .entry)) (now (b .entry)) (now (probe .entry))) (now (out .entry)) ⌝ }
+    requires { ⌜ Rows session (length (now a)) (length (now b)) × Probes session (length (now probe)) × (session .next ≤ session .a .rows * session .b .rows) × (room ≡ roomOf (length (now out))) ⌝ }
+    ensures { λ r. ⌜ leaves r (lent (now (a .entry)) (now (b .entry)) (now (probe .entry))) (now (out .exit)) ≡ drains (world session (lent (now (a .entry)) (now (b .entry)) (now (probe .entry)))) (now (out .entry)) ⌝ }
 {
     let counts = session.counts;
     let job = Job {
@@ -54,10 +56,15 @@ fn write_owed(
 }
 
 pub fn drain(session: Session, a: &[u32], b: &[u32], probe: &[u32], out: &mut [u32]) -> Reply
-    ensures { λ r. ⌜ leaves r (now (a .entry)) (now (b .entry)) (now (probe .entry)) (now (out .exit)) ≡ afterCall (world session (now (a .entry)) (now (b .entry)) (now (probe .entry))) (now (out .entry)) Drain ⌝ }
+    ensures { λ r. ⌜ leaves r (lent (now (a .entry)) (now (b .entry)) (now (probe .entry))) (now (out .exit)) ≡ afterCall (world session (lent (now (a .entry)) (now (b .entry)) (now (probe .entry)))) (now (out .entry)) Drain ⌝ }
 {
     let room = room_of(out.len());
-    match check_drain(session, room, a.len(), b.len(), probe.len()) {
+    let sizes = Lengths {
+        a: a.len(),
+        b: b.len(),
+        probe: probe.len(),
+    };
+    match check_drain(session, room, sizes) {
         Verdict::No(why) => Reply {
             answer: Answer::Refused(why),
             session,

@@ -1,6 +1,7 @@
 // The flush of a named portion.
 use crate::refusals::check_portion;
 use rules::Answer;
+use rules::Lengths;
 use rules::Reply;
 use rules::Session;
 use rules::Verdict;
@@ -13,7 +14,7 @@ ghost use lib.ListN.{length};
 ghost use Rattle.rules.specs.declared.Call.the-variants.{Evict};
 ghost use Rattle.rules.specs.Calls.{leaves, afterCall};
 ghost use Rattle.calls.specs.Work.{Rows, Clears};
-ghost use Rattle.rules.specs.World.{world};
+ghost use Rattle.rules.specs.World.{world, lent};
 
 // The session after a flush, and the rows flushed.
 pub struct Cleared {
@@ -51,9 +52,14 @@ pub fn evict(
     b: &mut [u32],
     probe: &[u32],
 ) -> Reply
-    ensures { λ r. ⌜ ((out : List ℕ) → leaves r (now (a .exit)) (now (b .exit)) (now (probe .entry)) out ≡ afterCall (world session (now (a .entry)) (now (b .entry)) (now (probe .entry))) out (Evict source part)) ⌝ }
+    ensures { λ r. ⌜ ((out : List ℕ) → leaves r (lent (now (a .exit)) (now (b .exit)) (now (probe .entry))) out ≡ afterCall (world session (lent (now (a .entry)) (now (b .entry)) (now (probe .entry)))) out (Evict source part)) ⌝ }
 {
-    match check_portion(session, part, a.len(), b.len(), probe.len()) {
+    let sizes = Lengths {
+        a: a.len(),
+        b: b.len(),
+        probe: probe.len(),
+    };
+    match check_portion(session, part, sizes) {
         Verdict::No(why) => Reply {
             answer: Answer::Refused(why),
             session,

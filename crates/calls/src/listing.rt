@@ -4,6 +4,7 @@ use crate::feeds::place_of;
 use crate::feeds::with_place;
 use crate::refusals::check_drain;
 use rules::Answer;
+use rules::Lengths;
 use rules::Reply;
 use rules::Session;
 use rules::Verdict;
@@ -11,14 +12,13 @@ use sheets::layout::single_room;
 use sheets::lones::write_lones;
 use stamps::Source;
 ghost use mathlib.Core.Path.{_≡_};
-ghost use mathlib.Core.List.{List};
-ghost use Prim.Native.Nat.{ℕ, _≤_};
+ghost use Prim.Native.Nat.{_≤_};
 ghost use lib.ListN.{length};
 ghost use Rattle.sheets.specs.Layout.{singleRoom};
 ghost use Rattle.rules.specs.declared.Call.the-variants.{Lone};
 ghost use Rattle.rules.specs.Calls.{after, leaves, lists, afterCall};
 ghost use Rattle.calls.specs.Work.{worldFrom, Rows};
-ghost use Rattle.rules.specs.World.{world, pick};
+ghost use Rattle.rules.specs.World.{world, pick, Sheets, lent};
 
 // A lone call that is not refused, seen from its source.
 fn write_alone(
@@ -30,7 +30,7 @@ fn write_alone(
     room: usize,
 ) -> Reply
     requires { ⌜ Rows session (length (pick source (now own) (now facing))) (length (pick source (now facing) (now own))) × (pick source (session .lone .a) (session .lone .b) ≤ pick source (session .a) (session .b) .rows) × (room ≡ singleRoom (length (now out))) ⌝ }
-    ensures { λ r. ⌜ ((probe : List ℕ) → after (r .answer) (worldFrom source (r .session) (now (own .entry)) (now (facing .entry)) probe) (now (out .exit)) ≡ lists source (worldFrom source session (now (own .entry)) (now (facing .entry)) probe) (now (out .entry))) ⌝ }
+    ensures { λ r. ⌜ ((x : Sheets) → after (r .answer) (worldFrom source (r .session) (now (own .entry)) (now (facing .entry)) x) (now (out .exit)) ≡ lists source (worldFrom source session (now (own .entry)) (now (facing .entry)) x) (now (out .entry))) ⌝ }
 {
     let feed = feed_of(session, source);
     let across = feed_of(session, stamps::other_source(source));
@@ -60,10 +60,15 @@ pub fn lone(
     probe: &[u32],
     out: &mut [u32],
 ) -> Reply
-    ensures { λ r. ⌜ leaves r (now (a .entry)) (now (b .entry)) (now (probe .entry)) (now (out .exit)) ≡ afterCall (world session (now (a .entry)) (now (b .entry)) (now (probe .entry))) (now (out .entry)) (Lone source) ⌝ }
+    ensures { λ r. ⌜ leaves r (lent (now (a .entry)) (now (b .entry)) (now (probe .entry))) (now (out .exit)) ≡ afterCall (world session (lent (now (a .entry)) (now (b .entry)) (now (probe .entry)))) (now (out .entry)) (Lone source) ⌝ }
 {
     let room = single_room(out.len());
-    match check_drain(session, room, a.len(), b.len(), probe.len()) {
+    let sizes = Lengths {
+        a: a.len(),
+        b: b.len(),
+        probe: probe.len(),
+    };
+    match check_drain(session, room, sizes) {
         Verdict::No(why) => Reply {
             answer: Answer::Refused(why),
             session,

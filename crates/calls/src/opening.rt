@@ -2,13 +2,14 @@
 use crate::refusals::sizes_fit;
 use rules::Answer;
 use rules::Feed;
+use rules::Lengths;
 use rules::Places;
 use rules::Reply;
 use rules::Session;
 use rules::Why;
 ghost use mathlib.Core.Path.{_≡_};
-ghost use lib.ListN.{length};
 ghost use Rattle.rules.specs.Calls.{fresh, opens};
+ghost use Rattle.rules.specs.World.{lent, lengths};
 
 // A record with nothing in it yet.
 pub fn new_session(parts: u32, slots: u32, limit: u32) -> Session
@@ -33,9 +34,14 @@ pub fn new_session(parts: u32, slots: u32, limit: u32) -> Session
 
 // Opens a session on sheets of any content. A refused opening hands back a record of zeros.
 pub fn open(parts: u32, slots: u32, limit: u32, a: &[u32], b: &[u32], probe: &[u32]) -> Reply
-    ensures { λ r. ⌜ r ≡ opens parts slots limit (length (now (a .entry))) (length (now (b .entry))) (length (now (probe .entry))) ⌝ }
+    ensures { λ r. ⌜ r ≡ opens parts slots limit (lengths (lent (now (a .entry)) (now (b .entry)) (now (probe .entry)))) ⌝ }
 {
-    if sizes_fit(parts, slots, limit, a.len(), b.len(), probe.len()) {
+    let sizes = Lengths {
+        a: a.len(),
+        b: b.len(),
+        probe: probe.len(),
+    };
+    if sizes_fit(parts, slots, limit, sizes) {
         let session = new_session(parts, slots, limit);
         return Reply {
             answer: Answer::Opened,

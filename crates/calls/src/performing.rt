@@ -10,7 +10,7 @@ use rules::Reply;
 use rules::Session;
 ghost use mathlib.Core.Path.{_≡_};
 ghost use Rattle.rules.specs.Calls.{leaves, afterCall};
-ghost use Rattle.rules.specs.World.{world};
+ghost use Rattle.rules.specs.World.{world, lent};
 
 pub fn perform(
     session: Session,
@@ -20,7 +20,7 @@ pub fn perform(
     probe: &mut [u32],
     out: &mut [u32],
 ) -> Reply
-    ensures { λ r. ⌜ leaves r (now (a .exit)) (now (b .exit)) (now (probe .exit)) (now (out .exit)) ≡ afterCall (world session (now (a .entry)) (now (b .entry)) (now (probe .entry))) (now (out .entry)) call ⌝ }
+    ensures { λ r. ⌜ leaves r (lent (now (a .exit)) (now (b .exit)) (now (probe .exit))) (now (out .exit)) ≡ afterCall (world session (lent (now (a .entry)) (now (b .entry)) (now (probe .entry)))) (now (out .entry)) call ⌝ }
 {
     match call {
         Call::Arrive(source, message) => arrive(session, source, message, a, b, probe, out),

@@ -1,5 +1,6 @@
 // When the box says no: the checks that need no look at the rows.
 use crate::feeds::feed_of;
+use rules::Lengths;
 use rules::Places;
 use rules::Session;
 use rules::Verdict;
@@ -12,8 +13,8 @@ ghost use Prim.Native.Nat.{_≤_};
 ghost use Rattle.rules.specs.Refusals.{sizesFit, numbersFit, countsFit, sessionFits, verdict, portionChecks, closeChecks, drainChecks};
 
 // P, M and N are in range, and the sheets are long enough for them.
-pub fn sizes_fit(parts: u32, slots: u32, limit: u32, a: usize, b: usize, probe: usize) -> bool
-    ensures { λ r. ⌜ r ≡ sizesFit parts slots limit a b probe ⌝ }
+pub fn sizes_fit(parts: u32, slots: u32, limit: u32, sizes: Lengths) -> bool
+    ensures { λ r. ⌜ r ≡ sizesFit parts slots limit sizes ⌝ }
 {
     let rows = rows_need(limit);
     let lists = probe_need(parts);
@@ -21,9 +22,9 @@ pub fn sizes_fit(parts: u32, slots: u32, limit: u32, a: usize, b: usize, probe: 
         & (parts <= 16)
         & ((1 <= slots) & (slots <= 1024))
         & ((1 <= limit) & (limit <= 4096))
-        & (rows <= a)
-        & (rows <= b)
-        & (lists <= probe)
+        & (rows <= sizes.a)
+        & (rows <= sizes.b)
+        & (lists <= sizes.probe)
 }
 
 fn numbers_fit(limit: u32, clock: u32, a_rows: u32, b_rows: u32, next: u32, lone: Places) -> bool
@@ -53,11 +54,11 @@ fn counts_fit(counts: &[u32; 32], lists: usize) -> bool
 }
 
 // Number 1: the record and the lengths of the sheets.
-pub fn session_fits(session: Session, a: usize, b: usize, probe: usize) -> bool
-    ensures { λ r. ⌜ r ≡ sessionFits session a b probe ⌝ }
+pub fn session_fits(session: Session, sizes: Lengths) -> bool
+    ensures { λ r. ⌜ r ≡ sessionFits session sizes ⌝ }
 {
     let parts = session.parts;
-    if sizes_fit(parts, session.slots, session.limit, a, b, probe) {
+    if sizes_fit(parts, session.slots, session.limit, sizes) {
         if numbers_fit(
             session.limit,
             session.clock,
@@ -75,10 +76,10 @@ pub fn session_fits(session: Session, a: usize, b: usize, probe: usize) -> bool
 }
 
 // Numbers 1, 3 and 4, for evict and run.
-pub fn check_portion(session: Session, part: u32, a: usize, b: usize, probe: usize) -> Verdict
-    ensures { λ r. ⌜ r ≡ verdict (portionChecks session part a b probe) ⌝ }
+pub fn check_portion(session: Session, part: u32, sizes: Lengths) -> Verdict
+    ensures { λ r. ⌜ r ≡ verdict (portionChecks session part sizes) ⌝ }
 {
-    if !session_fits(session, a, b, probe) {
+    if !session_fits(session, sizes) {
         return Verdict::No(Why::BadSheet);
     }
     if session.parts <= part {
@@ -91,10 +92,10 @@ pub fn check_portion(session: Session, part: u32, a: usize, b: usize, probe: usi
 }
 
 // Numbers 1 and 4, for close.
-pub fn check_close(session: Session, source: Source, a: usize, b: usize, probe: usize) -> Verdict
-    ensures { λ r. ⌜ r ≡ verdict (closeChecks session source a b probe) ⌝ }
+pub fn check_close(session: Session, source: Source, sizes: Lengths) -> Verdict
+    ensures { λ r. ⌜ r ≡ verdict (closeChecks session source sizes) ⌝ }
 {
-    if !session_fits(session, a, b, probe) {
+    if !session_fits(session, sizes) {
         return Verdict::No(Why::BadSheet);
     }
     let feed = feed_of(session, source);
@@ -105,10 +106,10 @@ pub fn check_close(session: Session, source: Source, a: usize, b: usize, probe: 
 }
 
 // Numbers 1, 7 and 8, for drain and lone.
-pub fn check_drain(session: Session, room: usize, a: usize, b: usize, probe: usize) -> Verdict
-    ensures { λ r. ⌜ r ≡ verdict (drainChecks session room a b probe) ⌝ }
+pub fn check_drain(session: Session, room: usize, sizes: Lengths) -> Verdict
+    ensures { λ r. ⌜ r ≡ verdict (drainChecks session room sizes) ⌝ }
 {
-    if !session_fits(session, a, b, probe) {
+    if !session_fits(session, sizes) {
         return Verdict::No(Why::BadSheet);
     }
     if !(session.a.closed & session.b.closed) {

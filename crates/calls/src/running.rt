@@ -2,6 +2,7 @@
 use crate::feeds::feed_of;
 use crate::refusals::check_portion;
 use rules::Answer;
+use rules::Lengths;
 use rules::Reply;
 use rules::Session;
 use rules::Verdict;
@@ -18,14 +19,12 @@ use sheets::rows::latest_dts;
 use stamps::Entry;
 use stamps::Source;
 ghost use mathlib.Core.Path.{_≡_};
-ghost use mathlib.Core.List.{List};
-ghost use Prim.Native.Nat.{ℕ, _<_};
+ghost use Prim.Native.Nat.{_<_};
 ghost use lib.ListN.{length};
 ghost use Rattle.rules.specs.declared.Call.the-variants.{Run};
 ghost use Rattle.rules.specs.Calls.{after, leaves, afterCall};
-ghost use Rattle.rules.specs.Fits.{Fits};
-ghost use Rattle.calls.specs.Work.{worldFrom, taskOf, ranUpto, runSettled, Listed};
-ghost use Rattle.rules.specs.World.{world, pick, note};
+ghost use Rattle.calls.specs.Work.{worldFrom, taskOf, ranUpto, runSettled, Listed, Rows, Probes};
+ghost use Rattle.rules.specs.World.{world, pick, note, Sheets, lent, withProbe};
 
 // What a run has to do: nothing, too much for its list, or the spooled rows up to a DTS.
 pub enum Task {
@@ -42,8 +41,8 @@ fn find_task(
     facing: &[u32],
     probe: &[u32],
 ) -> Task
-    requires { ⌜ Fits session (length (pick source (now own) (now facing))) (length (pick source (now facing) (now own))) (length (now probe)) × (part < session .parts) ⌝ }
-    ensures { λ r. ⌜ r ≡ taskOf (worldFrom source session (now (own .entry)) (now (facing .entry)) (now (probe .entry))) source part ⌝ }
+    requires { ⌜ Rows session (length (pick source (now own) (now facing))) (length (pick source (now facing) (now own))) × Probes session (length (now probe)) × (part < session .parts) ⌝ }
+    ensures { λ r. ⌜ ((x : Sheets) → r ≡ taskOf (worldFrom source session (now (own .entry)) (now (facing .entry)) (withProbe (now (probe .entry)) x)) source part) ⌝ }
 {
     let parts = session.parts;
     let counts = session.counts;
@@ -65,7 +64,7 @@ fn find_task(
 // Adds an entry to the portion's list, and counts it.
 fn add_entry(session: Session, source: Source, part: u32, last: u32, probe: &mut [u32]) -> Session
     requires { ⌜ Listed session source part (length (now probe)) ⌝ }
-    ensures { λ r. ⌜ ((a b : List ℕ) → world r a b (now (probe .exit)) ≡ note source part last (world session a b (now (probe .entry)))) ⌝ }
+    ensures { λ r. ⌜ ((x : Sheets) → world r (withProbe (now (probe .exit)) x) ≡ note source part last (world session (withProbe (now (probe .entry)) x))) ⌝ }
 {
     let mut counts = session.counts;
     let list = list_of(&counts, session.parts, source, part);
@@ -92,8 +91,8 @@ fn run_upto(
     probe: &mut [u32],
     out: &mut [u32],
 ) -> Reply
-    requires { ⌜ Fits session (length (pick source (now own) (now facing))) (length (pick source (now facing) (now own))) (length (now probe)) × Listed session source part (length (now probe)) ⌝ }
-    ensures { λ r. ⌜ after (r .answer) (worldFrom source (r .session) (now (own .entry)) (now (facing .entry)) (now (probe .exit))) (now (out .exit)) ≡ ranUpto source part last (worldFrom source session (now (own .entry)) (now (facing .entry)) (now (probe .entry))) (now (out .entry)) ⌝ }
+    requires { ⌜ Rows session (length (pick source (now own) (now facing))) (length (pick source (now facing) (now own))) × Probes session (length (now probe)) × Listed session source part (length (now probe)) ⌝ }
+    ensures { λ r. ⌜ ((x : Sheets) → after (r .answer) (worldFrom source (r .session) (now (own .entry)) (now (facing .entry)) (withProbe (now (probe .exit)) x)) (now (out .exit)) ≡ ranUpto source part last (worldFrom source session (now (own .entry)) (now (facing .entry)) (withProbe (now (probe .entry)) x)) (now (out .entry))) ⌝ }
 {
     let counts = session.counts;
     let feed = feed_of(session, source);
@@ -130,8 +129,8 @@ fn run_portion(
     probe: &mut [u32],
     out: &mut [u32],
 ) -> Reply
-    requires { ⌜ Fits session (length (pick source (now own) (now facing))) (length (pick source (now facing) (now own))) (length (now probe)) × (part < session .parts) ⌝ }
-    ensures { λ r. let w = worldFrom source session (now (own .entry)) (now (facing .entry)) (now (probe .entry)) in ⌜ after (r .answer) (worldFrom source (r .session) (now (own .entry)) (now (facing .entry)) (now (probe .exit))) (now (out .exit)) ≡ runSettled source part w (now (out .entry)) ⌝ }
+    requires { ⌜ Rows session (length (pick source (now own) (now facing))) (length (pick source (now facing) (now own))) × Probes session (length (now probe)) × (part < session .parts) ⌝ }
+    ensures { λ r. ⌜ ((x : Sheets) → after (r .answer) (worldFrom source (r .session) (now (own .entry)) (now (facing .entry)) (withProbe (now (probe .exit)) x)) (now (out .exit)) ≡ runSettled source part (worldFrom source session (now (own .entry)) (now (facing .entry)) (withProbe (now (probe .entry)) x)) (now (out .entry))) ⌝ }
 {
     match find_task(session, source, part, own, facing, probe) {
         Task::Idle => Reply {
@@ -155,9 +154,14 @@ pub fn run(
     probe: &mut [u32],
     out: &mut [u32],
 ) -> Reply
-    ensures { λ r. ⌜ leaves r (now (a .entry)) (now (b .entry)) (now (probe .exit)) (now (out .exit)) ≡ afterCall (world session (now (a .entry)) (now (b .entry)) (now (probe .entry))) (now (out .entry)) (Run source part) ⌝ }
+    ensures { λ r. ⌜ leaves r (lent (now (a .entry)) (now (b .entry)) (now (probe .exit))) (now (out .exit)) ≡ afterCall (world session (lent (now (a .entry)) (now (b .entry)) (now (probe .entry)))) (now (out .entry)) (Run source part) ⌝ }
 {
-    match check_portion(session, part, a.len(), b.len(), probe.len()) {
+    let sizes = Lengths {
+        a: a.len(),
+        b: b.len(),
+        probe: probe.len(),
+    };
+    match check_portion(session, part, sizes) {
         Verdict::No(why) => Reply {
             answer: Answer::Refused(why),
             session,

@@ -9,10 +9,11 @@ use lib.ListN.{length, take, length-take}
 use Rattle.sheets.specs.Layout.{pairsNeed}
 use Rattle.rules.specs.Answers.{writtenOf, refused}
 use Rattle.rules.specs.Calls.{opens, afterCall}
-use Rattle.rules.specs.World.{world}
+use Rattle.rules.specs.World.{world, Sheets}
 use Rattle.rules.specs.Refusals.{roomIn}
 use Rattle.rules.specs.declared.Call.{Call}
 use Rattle.rules.specs.declared.Call.the-variants as call
+use Rattle.rules.specs.declared.Lengths.{Lengths}
 use Rattle.rules.specs.declared.Reply.{Reply}
 use Rattle.rules.specs.declared.Why.the-variants.{NoStart}
 use Rattle.rules.proofs.Laws.{written-fits, opens-none}
@@ -28,12 +29,12 @@ use Rattle.lines.proofs.PrintTurns.{put-none}
 
 -- ---- what an answer lists
 
-asks-fits : (c : Call) (t : State) (a b probe o : List ℕ) → writtenOf (asks c t a b probe o .told .answer) ≤ roomIn c (length o)
+asks-fits : (c : Call) (t : State) (z : Sheets) (o : List ℕ) → writtenOf (asks c t z o .told .answer) ≤ roomIn c (length o)
 unfolding asks
-asks-fits c t a b probe o = go (t .started)
+asks-fits c t z o = go (t .started)
   where
-    go : (u : Bool) → writtenOf ((cond u (went (afterCall (world (t .session) a b probe) o c)) (turned (refuses NoStart t) a b probe o)) .told .answer) ≤ roomIn c (length o)
-    go true = written-fits (world (t .session) a b probe) o c
+    go : (u : Bool) → writtenOf ((cond u (went (afterCall (world (t .session) z) o c)) (turned (refuses NoStart t) z o)) .told .answer) ≤ roomIn c (length o)
+    go true = written-fits (world (t .session) z) o c
     go false = omega arith
 
 -- fewer words have no more room
@@ -53,40 +54,40 @@ begins-answer t r = go (refused (r .answer))
     go false = refl
 
 -- the same of what the functions hand back
-pub begun-fits : (t : State) (p m n a b probe : ℕ) (r : Outcome) → r ≡ begins t (opens p m n a b probe) → writtenOf (r .answer) ≤ roomMost
-begun-fits t p m n a b probe r e = omega (arith, ap (λ (x : Outcome). writtenOf (x .answer)) e, ap writtenOf (begins-answer t (opens p m n a b probe)), opens-none p m n a b probe)
+pub begun-fits : (t : State) (p m n : ℕ) (k : Lengths) (r : Outcome) → r ≡ begins t (opens p m n k) → writtenOf (r .answer) ≤ roomMost
+begun-fits t p m n k r e = omega (arith, ap (λ (x : Outcome). writtenOf (x .answer)) e, ap writtenOf (begins-answer t (opens p m n k)), opens-none p m n k)
 
-pub asked-fits : (c : Call) (t : State) (a b probe o : List ℕ) (r : Outcome) (a′ b′ probe′ o′ : List ℕ) → turned r a′ b′ probe′ o′ ≡ asks c t a b probe o
+pub asked-fits : (c : Call) (t : State) (z : Sheets) (o : List ℕ) (r : Outcome) (z′ : Sheets) (o′ : List ℕ) → turned r z′ o′ ≡ asks c t z o
     → length o ≡ pairsNeed roomMost → roomIn c (pairsNeed roomMost) ≤ roomMost → writtenOf (r .answer) ≤ roomMost
-asked-fits c t a b probe o r a′ b′ probe′ o′ e n h =
-    omega (arith, asks-fits c t a b probe o, room-less c (length o) (pairsNeed roomMost) (omega (arith, n)), h, ap (λ (y : Turn). writtenOf (y .told .answer)) e)
+asked-fits c t z o r z′ o′ e n h =
+    omega (arith, asks-fits c t z o, room-less c (length o) (pairsNeed roomMost) (omega (arith, n)), h, ap (λ (y : Turn). writtenOf (y .told .answer)) e)
 
-pub asked-in-fits : (words : ℕ) (c : Call) (t : State) (a b probe o : List ℕ) (r : Outcome) (a′ b′ probe′ o′ : List ℕ) → turned r a′ b′ probe′ o′ ≡ asksIn words c t a b probe o
+pub asked-in-fits : (words : ℕ) (c : Call) (t : State) (z : Sheets) (o : List ℕ) (r : Outcome) (z′ : Sheets) (o′ : List ℕ) → turned r z′ o′ ≡ asksIn words c t z o
     → roomIn c words ≤ roomMost → writtenOf (r .answer) ≤ roomMost
 unfolding asksIn
-asked-in-fits words c t a b probe o r a′ b′ probe′ o′ e h = let k : length (take words o) ≤ words = omega (arith, length-take words o) in
-    omega (arith, asks-fits c t a b probe (take words o), room-less c (length (take words o)) words k, h, ap (λ (y : Turn). writtenOf (y .told .answer)) e)
+asked-in-fits words c t z o r z′ o′ e h = let k : length (take words o) ≤ words = omega (arith, length-take words o) in
+    omega (arith, asks-fits c t z (take words o), room-less c (length (take words o)) words k, h, ap (λ (y : Turn). writtenOf (y .told .answer)) e)
 
 -- ---- what the functions hand back
 
 -- a turn whose reply is put into the buffer
-pub says-turn : (l : List ℕ) (t : State) (a b probe o : List ℕ) (r : Outcome) (n : ℕ) (a′ b′ probe′ o′ d e : List ℕ) → turned r a′ b′ probe′ o′ ≡ turnOf (readLine l) t a b probe o
-    → Put d 0 (replyText o′ (r .answer)) n e → n ≤ replyMost roomMost → Says (answered l t a b probe o) d (r .state) n a′ b′ probe′ o′ e
+pub says-turn : (l : List ℕ) (t : State) (z : Sheets) (o : List ℕ) (r : Outcome) (n : ℕ) (z′ : Sheets) (o′ d e : List ℕ) → turned r z′ o′ ≡ turnOf (readLine l) t z o
+    → Put d 0 (replyText o′ (r .answer)) n e → n ≤ replyMost roomMost → Says (answered l t z o) d (r .state) n z′ o′ e
 unfolding answered
-says-turn l t a b probe o r n a′ b′ probe′ o′ d e g p h = subst (λ (x : Turn). Says (replied x) d (r .state) n a′ b′ probe′ o′ e) g (record { same = refl; text = p; most = h })
+says-turn l t z o r n z′ o′ d e g p h = subst (λ (x : Turn). Says (replied x) d (r .state) n z′ o′ e) g (record { same = refl; text = p; most = h })
 
 -- no line
-pub says-nothing : (t : State) (a b probe o d : List ℕ) → Says (silent t a b probe o) d t 0 a b probe o d
-says-nothing t a b probe o d = record { same = refl; text = put-none d 0; most = omega arith }
+pub says-nothing : (t : State) (z : Sheets) (o d : List ℕ) → Says (silent t z o) d t 0 z o d
+says-nothing t z o d = record { same = refl; text = put-none d 0; most = omega arith }
 
 -- a look at the input in which the line did not end
-pub serves-bytes : (g : Held) (r : Gathered) (l : List ℕ) (t : State) (a b probe o d : List ℕ) → record { how = r; line = l } ≡ g → r .ended ≡ false
-    → Serves g t a b probe o d (record { state = t; have = r .have; next = r .next; bytes = 0 }) l a b probe o d
-serves-bytes g r l t a b probe o d s n = subst (λ (x : Held). Serves x t a b probe o d (record { state = t; have = r .have; next = r .next; bytes = 0 }) l a b probe o d) s
-    (record { says = rw n (says-nothing t a b probe o d); have = rw n; next = refl; line = refl })
+pub serves-bytes : (g : Held) (r : Gathered) (l : List ℕ) (t : State) (z : Sheets) (o d : List ℕ) → record { how = r; line = l } ≡ g → r .ended ≡ false
+    → Serves g t z o d (record { state = t; have = r .have; next = r .next; bytes = 0 }) l z o d
+serves-bytes g r l t z o d s n = subst (λ (x : Held). Serves x t z o d (record { state = t; have = r .have; next = r .next; bytes = 0 }) l z o d) s
+    (record { says = rw n (says-nothing t z o d); have = rw n; next = refl; line = refl })
 
 -- and one in which it did
-pub serves-line : (g : Held) (r : Gathered) (l : List ℕ) (t : State) (a b probe o d : List ℕ) (t′ : State) (n : ℕ) (a′ b′ probe′ o′ e : List ℕ) → record { how = r; line = l } ≡ g → r .ended ≡ true
-    → Says (answered (take (r .have) l) t a b probe o) d t′ n a′ b′ probe′ o′ e → Serves g t a b probe o d (record { state = t′; have = 0; next = r .next; bytes = n }) l a′ b′ probe′ o′ e
-serves-line g r l t a b probe o d t′ n a′ b′ probe′ o′ e s y h = subst (λ (x : Held). Serves x t a b probe o d (record { state = t′; have = 0; next = r .next; bytes = n }) l a′ b′ probe′ o′ e) s
+pub serves-line : (g : Held) (r : Gathered) (l : List ℕ) (t : State) (z : Sheets) (o d : List ℕ) (t′ : State) (n : ℕ) (z′ : Sheets) (o′ e : List ℕ) → record { how = r; line = l } ≡ g → r .ended ≡ true
+    → Says (answered (take (r .have) l) t z o) d t′ n z′ o′ e → Serves g t z o d (record { state = t′; have = 0; next = r .next; bytes = n }) l z′ o′ e
+serves-line g r l t z o d t′ n z′ o′ e s y h = subst (λ (x : Held). Serves x t z o d (record { state = t′; have = 0; next = r .next; bytes = n }) l z′ o′ e) s
     (record { says = rw y h; have = rw y; next = refl; line = refl })

@@ -14,6 +14,7 @@ use borrow.Author.Tests.{ltb-true, ltb-false, leb-true, leb-false, le-leb}
 use Rattle.stamps.specs.declared.Source.{Source}
 use Rattle.sheets.specs.Layout.{pairsNeed}
 use Rattle.rules.specs.Refusals.{roomIn}
+use Rattle.rules.specs.World.{Sheets}
 use Rattle.lines.specs.declared.answering.State.{State}
 use Rattle.lines.specs.declared.gathering.Gathered.{Gathered}
 use Rattle.lines.specs.declared.numbers.Number.{Number}
@@ -189,16 +190,16 @@ put-one-result a b = (a .next ∙ sym (b .next), a .bytes ∙ sym (b .bytes))
 pub took-one-result : {l input e f : List ℕ} {have from : ℕ} {r q : Gathered} → Took l have input from r e → Took l have input from q f → (r ≡ q) × (e ≡ f)
 took-one-result a b = let s = a .same ∙ sym (b .same) in (ap (λ (h : Held). h .how) s, ap (λ (h : Held). h .line) s)
 
-pub says-one-result : {x : Left} {d : List ℕ} {t t′ : State} {n n′ : ℕ} {a a′ b b′ probe probe′ o o′ e e′ : List ℕ} → Says x d t n a b probe o e → Says x d t′ n′ a′ b′ probe′ o′ e′
-    → (t ≡ t′) × (n ≡ n′) × (a ≡ a′) × (b ≡ b′) × (probe ≡ probe′) × (o ≡ o′) × (e ≡ e′)
+pub says-one-result : {x : Left} {d : List ℕ} {t t′ : State} {n n′ : ℕ} {z z′ : Sheets} {o o′ e e′ : List ℕ} → Says x d t n z o e → Says x d t′ n′ z′ o′ e′
+    → (t ≡ t′) × (n ≡ n′) × (z ≡ z′) × (o ≡ o′) × (e ≡ e′)
 says-one-result r q = let s = r .same ∙ sym (q .same) in let p = put-one-result (r .text) (q .text) in
-    (ap (λ (y : Left). y .state) s, p .0, ap (λ (y : Left). y .a) s, ap (λ (y : Left). y .b) s, ap (λ (y : Left). y .probe) s, ap (λ (y : Left). y .out) s, p .1)
+    (ap (λ (y : Left). y .state) s, p .0, ap (λ (y : Left). y .sheets) s, ap (λ (y : Left). y .out) s, p .1)
 
-pub serves-one-result : {g : Held} {t : State} {a b probe o d : List ℕ} {r r′ : Served} {l l′ a₁ a₂ b₁ b₂ probe₁ probe₂ o₁ o₂ e₁ e₂ : List ℕ}
-    → Serves g t a b probe o d r l a₁ b₁ probe₁ o₁ e₁ → Serves g t a b probe o d r′ l′ a₂ b₂ probe₂ o₂ e₂
-    → (r ≡ r′) × (l ≡ l′) × (a₁ ≡ a₂) × (b₁ ≡ b₂) × (probe₁ ≡ probe₂) × (o₁ ≡ o₂) × (e₁ ≡ e₂)
-serves-one-result x y = let (t, n, a, b, probe, o, e) = says-one-result (x .says) (y .says) in
-    (λ i. record { state = t i; have = (x .have ∙ sym (y .have)) i; next = (x .next ∙ sym (y .next)) i; bytes = n i }, x .line ∙ sym (y .line), a, b, probe, o, e)
+pub serves-one-result : {g : Held} {t : State} {z z₁ z₂ : Sheets} {o d : List ℕ} {r r′ : Served} {l l′ o₁ o₂ e₁ e₂ : List ℕ}
+    → Serves g t z o d r l z₁ o₁ e₁ → Serves g t z o d r′ l′ z₂ o₂ e₂
+    → (r ≡ r′) × (l ≡ l′) × (z₁ ≡ z₂) × (o₁ ≡ o₂) × (e₁ ≡ e₂)
+serves-one-result x y = let (t, n, z, o, e) = says-one-result (x .says) (y .says) in
+    (λ i. record { state = t i; have = (x .have ∙ sym (y .have)) i; next = (x .next ∙ sym (y .next)) i; bytes = n i }, x .line ∙ sym (y .line), z, o, e)
 
 -- ---- what a line asks for has a room of at most 512: the one that it names, or that of the whole output
 

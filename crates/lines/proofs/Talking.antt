@@ -7,6 +7,7 @@ use Prim.Native.Nat.{ℕ, _+_, _-_}
 use native.Mathlib.Omega.{arith}
 use lib.ListN.{length, take, drop, drop-of-length-le}
 use borrow.Author.Tests.{eq-eqb, ne-eqb}
+use Rattle.rules.specs.World.{Sheets}
 use Rattle.lines.specs.Answering.{Left, left, answered, silent}
 use Rattle.lines.specs.Gathering.{isLF, Held, held, cut, linesFrom, keptLen, keptLine, gather}
 use Rattle.lines.specs.Serving.{served, finished, andThen, talk}
@@ -16,13 +17,13 @@ use Rattle.lines.proofs.Laws.{Holds, holds-first, Found, gather-finds, 
 -- ---- one line
 
 -- a line in its buffer is answered as the whole line
-answered-held : (l : List ℕ) (have : ℕ) (line : List ℕ) (t : State) (a b probe o : List ℕ) → Holds l have line → answered (take have l) t a b probe o ≡ answered line t a b probe o
+answered-held : (l : List ℕ) (have : ℕ) (line : List ℕ) (t : State) (z : Sheets) (o : List ℕ) → Holds l have line → answered (take have l) t z o ≡ answered line t z o
 unfolding answered
-answered-held l have line t a b probe o h = rw (read-held l have line h)
+answered-held l have line t z o h = rw (read-held l have line h)
 
 -- silence changes nothing
-then-silent : (x : Left) → andThen x (silent (x .state) (x .a) (x .b) (x .probe) (x .out)) ≡ x
-then-silent x = λ i. left (x .state) (x .a) (x .b) (x .probe) (x .out) (append-nil (x .text) i)
+then-silent : (x : Left) → andThen x (silent (x .state) (x .sheets) (x .out)) ≡ x
+then-silent x = λ i. left (x .state) (x .sheets) (x .out) (append-nil (x .text) i)
 
 -- ---- one look at the input
 
@@ -47,26 +48,26 @@ pub record Onward (whole x : Left) (l : List ℕ) (have : ℕ) (bytes : List ℕ
   pub same : whole ≡ talk x (linesFrom begun bytes)
 
 found-talks : (begun bytes rest : List ℕ) (x : Left) (g : Held) → Found begun bytes rest (g .how) (g .line) → (g .how .ended ≡ false → rest ≡ [])
-    → Onward (talk x (linesFrom begun bytes)) (andThen x (served g (x .state) (x .a) (x .b) (x .probe) (x .out))) (g .line) (cond (g .how .ended) 0 (g .how .have)) rest
+    → Onward (talk x (linesFrom begun bytes)) (andThen x (served g (x .state) (x .sheets) (x .out))) (g .line) (cond (g .how .ended) 0 (g .how .have)) rest
 unfolding linesFrom talk cut
 found-talks begun bytes rest x g f n = go (g .how .ended) refl
   where
-    go : (u : Bool) → g .how .ended ≡ u → Onward (talk x (linesFrom begun bytes)) (andThen x (served g (x .state) (x .a) (x .b) (x .probe) (x .out))) (g .line) (cond (g .how .ended) 0 (g .how .have)) rest
+    go : (u : Bool) → g .how .ended ≡ u → Onward (talk x (linesFrom begun bytes)) (andThen x (served g (x .state) (x .sheets) (x .out))) (g .line) (cond (g .how .ended) 0 (g .how .have)) rest
     go true e = record {
       begun = [];
       holds = rw e (holds-first (g .line) (f .holds .long));
-      same = rw (f .cuts, e, answered-held (g .line) (g .how .have) (f .line) (x .state) (x .a) (x .b) (x .probe) (x .out) (f .holds));
+      same = rw (f .cuts, e, answered-held (g .line) (g .how .have) (f .line) (x .state) (x .sheets) (x .out) (f .holds));
     }
     go false e = record { begun = f .line; holds = rw e (f .holds); same = rw (f .cuts, e, n e, then-silent x) }
 
 -- a look at the input answers its next line: what `serve` leaves, and the lines of the bytes behind it, make the whole
 pub serve-talks : (l : List ℕ) (have : ℕ) (bytes : List ℕ) (at : ℕ) (begun : List ℕ) (x : Left) → Holds l have begun → let g = gather l have bytes at in
-    Onward (talk x (linesFrom begun bytes)) (andThen x (served g (x .state) (x .a) (x .b) (x .probe) (x .out))) (g .line) (cond (g .how .ended) 0 (g .how .have)) (drop (g .how .next - at) bytes)
+    Onward (talk x (linesFrom begun bytes)) (andThen x (served g (x .state) (x .sheets) (x .out))) (g .line) (cond (g .how .ended) 0 (g .how .have)) (drop (g .how .next - at) bytes)
 serve-talks l have bytes at begun x h =
     found-talks begun bytes _ x (gather l have bytes at) (gather-finds l have begun bytes at h) (λ e. drop-of-length-le bytes {i = gather l have bytes at .how .next - at} (omega (arith, gather-all l have bytes at e)))
 
 -- the end of the input answers the rest: what `finish` leaves is the whole
-pub finish-talks : (l : List ℕ) (have : ℕ) (begun : List ℕ) (x : Left) → Holds l have begun → talk x (linesFrom begun []) ≡ andThen x (finished l have (x .state) (x .a) (x .b) (x .probe) (x .out))
+pub finish-talks : (l : List ℕ) (have : ℕ) (begun : List ℕ) (x : Left) → Holds l have begun → talk x (linesFrom begun []) ≡ andThen x (finished l have (x .state) (x .sheets) (x .out))
 unfolding linesFrom talk cut
 finish-talks l have [] x h = let e : have ≡ 0 = omega (arith, h .size) in rw (eq-eqb have 0 e, then-silent x)
-finish-talks l have (y ∷ ys) x h = rw (ne-eqb have 0 (λ (e : have ≡ 0). omega (arith, h .size)), answered-held l have (y ∷ ys) (x .state) (x .a) (x .b) (x .probe) (x .out) h)
+finish-talks l have (y ∷ ys) x h = rw (ne-eqb have 0 (λ (e : have ≡ 0). omega (arith, h .size)), answered-held l have (y ∷ ys) (x .state) (x .sheets) (x .out) h)

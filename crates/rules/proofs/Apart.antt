@@ -17,7 +17,7 @@ use Rattle.rules.specs.Demand3.{wrote}
 use Rattle.rules.specs.Lone.{asks, Heard, heardOf, heard, only, others}
 use Rattle.rules.specs.Refusals.{verdict, sessionFits, bothClosed, roomFor, makeRoom, arrived, idle, rowChecks, roomCheck, roomIn, checks}
 use Rattle.rules.specs.Rounds.{Lent}
-use Rattle.rules.specs.World.{World, pick, same, countOf, withLone, withPlace, flush, store, note, shut, move, pass}
+use Rattle.rules.specs.World.{World, pick, same, countOf, withLone, withPlace, flush, store, note, shut, move, pass, world, lengths}
 use Rattle.rules.specs.declared.Places.{Places}
 use Rattle.rules.specs.declared.Call.{Call}
 use Rattle.rules.specs.declared.Call.the-variants.{Arrive, Evict, Run, Close, Drain, Lone}
@@ -92,7 +92,7 @@ asks-own P s x = by-kind (λ c. asks s c ≡ true → P c) (λ c h e. absurd (fa
 -- ---- other positions of the lone calls
 
 abbrev pub placed : Places → World → World
-placed p w = record { session = withLone p (w .session); a = w .a; b = w .b; probe = w .probe }
+placed p w = world (withLone p (w .session)) (w .sheets)
 
 module _ (p : Places) where
   -- in what a call leaves
@@ -137,12 +137,12 @@ module _ (p : Places) where
   placed-effect w o (Lone B) h = absurd (false≢true h)
 
   placed-fits : (w : World) → Fit w → Fit (placed p w)
-      → sessionFits (withLone p (w .session)) (length (w .a)) (length (w .b)) (length (w .probe)) ≡ sessionFits (w .session) (length (w .a)) (length (w .b)) (length (w .probe))
+      → sessionFits (withLone p (w .session)) (lengths (w .sheets)) ≡ sessionFits (w .session) (lengths (w .sheets))
   placed-fits w f f′ = fits-hold (placed p w) f′ ∙ sym (fits-hold w f)
 
   placed-checks : (w : World) (c : Call) (room : ℕ) → Fit w → Fit (placed p w) → verdict (checks (placed p w) c room) ≡ verdict (checks w c room)
   unfolding checks roomFor
-  placed-checks w (Arrive s m) room f f′ = rw (placed-fits w f f′) (ap (λ (v : World). verdict (rowChecks (w .session) s m (length (w .a)) (length (w .b)) (length (w .probe))
+  placed-checks w (Arrive s m) room f f′ = rw (placed-fits w f f′) (ap (λ (v : World). verdict (rowChecks (w .session) s m (lengths (w .sheets))
       ++ (roomCheck room (length (arrived s (itemOf m) v)) ∷ []))) (placed-room (roomFor w) w))
   placed-checks w (Evict s q) room f f′ = rw (placed-fits w f f′)
   placed-checks w (Run s q) room f f′ = rw (placed-fits w f f′)

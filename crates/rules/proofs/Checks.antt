@@ -10,6 +10,7 @@ use lib.ListN.{getD}
 use Rattle.stamps.specs.Counting.Laws.{tests, one-more, both, Each, each}
 use Rattle.rules.specs.Refusals.{between, sizeTests, sizesFit, numberTests, numbersFit, countsFit, sessionFits}
 use Rattle.rules.specs.Fits.{Sizes, Fits}
+use Rattle.rules.specs.declared.Lengths.{Lengths}
 use Rattle.rules.specs.declared.Session.{Session}
 
 -- ---- number 1, taken apart
@@ -17,8 +18,8 @@ use Rattle.rules.specs.declared.Session.{Session}
 between-is : (low high n : ℕ) → between low high n ≡ true → (low ≤ n) × (n ≤ high)
 between-is low high n h = let p = both (leb low n) (leb n high) h in omega (arith, tests, p)
 
-pub sizes-are : (p m n a b probe : ℕ) → sizesFit p m n a b probe ≡ true → Sizes p m n a b probe
-sizes-are p m n a b probe h = let t : Each (sizeTests p m n a b probe) = each (sizeTests p m n a b probe) h in
+pub sizes-are : (p m n : ℕ) (k : Lengths) → sizesFit p m n k ≡ true → Sizes p m n k
+sizes-are p m n k h = let t : Each (sizeTests p m n k) = each (sizeTests p m n k) h in
     record {
       parts = between-is 1 16 p (t .0);
       slots = between-is 1 1024 m (t .1 .0);
@@ -33,14 +34,14 @@ counts-are counts zero h k b = absurd (omega arith)
 counts-are counts (suc n) h k b = let p = both (countsFit counts n) (leb (getD counts n 0) 32) h in
     one-more (λ k. getD counts k 0 ≤ 32) n (counts-are counts n (p .0)) (omega (arith, tests, p .1)) k b
 
-pub fits-are : (t : Session) (a b probe : ℕ) → sessionFits t a b probe ≡ true → Fits t a b probe
+pub fits-are : (t : Session) (k : Lengths) → sessionFits t k ≡ true → Fits t k
 unfolding sessionFits
-fits-are t a b probe h =
-    let p = both (sizesFit (t .parts) (t .slots) (t .limit) a b probe) _ h in
+fits-are t k h =
+    let p = both (sizesFit (t .parts) (t .slots) (t .limit) k) _ h in
     let q = both (numbersFit (t .limit) (t .clock) (t .a .rows) (t .b .rows) (t .next) (t .lone)) (countsFit (t .counts) (2 * t .parts)) (p .1) in
     let e : Each (numberTests (t .limit) (t .clock) (t .a .rows) (t .b .rows) (t .next) (t .lone)) = each (numberTests (t .limit) (t .clock) (t .a .rows) (t .b .rows) (t .next) (t .lone)) (q .0) in
     record {
-      sizes = sizes-are _ _ _ _ _ _ (p .0);
+      sizes = sizes-are _ _ _ _ (p .0);
       a-few = omega (arith, tests);
       b-few = omega (arith, tests);
       clock = omega (arith, tests);

@@ -25,7 +25,7 @@ use Rattle.rules.specs.Calls.{After, owed, drains, effect, settle, after
 use Rattle.rules.specs.Rounds.{Handed, sayingAt, Lent}
 use Rattle.rules.specs.Demand3.{wrote, opened, ForAnyCalls, accepted, itemsOf, pairOf, owes, left, Demand3, now, written}
 use Rattle.rules.specs.Refusals.{Check, verdict, tryChecks, sessionFits, bothClosed, idle, roomIn, checks}
-use Rattle.rules.specs.World.{World, countOf, rowsOf, seenFrom, move}
+use Rattle.rules.specs.World.{World, countOf, rowsOf, seenFrom, move, lengths, Sheets}
 use Rattle.rules.specs.declared.Call.{Call}
 use Rattle.rules.specs.declared.Call.the-variants.{Arrive, Evict, Run, Close, Drain, Lone}
 use Rattle.rules.specs.declared.Why.the-variants.{BadSheet}
@@ -130,7 +130,7 @@ fits-now : (w : World) (l : List Told) → Sits w l → (o : List ℕ) (c : Call
 unfolding checks
 fits-now w l g o c e = go c (refused-by w o c BadSheet e)
   where
-    good : not (sessionFits (w .session) (length (w .a)) (length (w .b)) (length (w .probe))) ≡ false
+    good : not (sessionFits (w .session) (lengths (w .sheets))) ≡ false
     good = rw (fits-hold w (g .fit))
 
     rest : (s : Source) (q : ℕ) (u : Bool) → Others (cond u [] (tryChecks w s q (roomOf (length o))))
@@ -147,9 +147,9 @@ fits-now w l g o c e = go c (refused-by w o c BadSheet e)
 
 -- ---- the demand
 
-module _ (p m n : ℕ) (a b probe : List ℕ) (e : opens p m n (length a) (length b) (length probe) .answer ≡ Opened) (calls : List Lent) where
+module _ (p m n : ℕ) (x : Sheets) (e : opens p m n (lengths x) .answer ≡ Opened) (calls : List Lent) where
   abbrev start : World
-  start = opened p m n a b probe
+  start = opened p m n x
 
   -- the box after the calls, and what they wrote
   abbrev w : World
@@ -159,10 +159,10 @@ module _ (p m n : ℕ) (a b probe : List ℕ) (e : opens p m n (length a) (lengt
   l = written start calls
 
   sits : Sits w l
-  sits = sits-calls start [] calls (sits-opened p m n a b probe e)
+  sits = sits-calls start [] calls (sits-opened p m n x e)
 
   rows-now : (s : Source) → itemsOf w s ≡ map itemOf (accepted s start calls)
-  rows-now s = calls-accept start [] calls (sits-opened p m n a b probe e) s ∙ ap (λ (k : List Item). k ++ map itemOf (accepted s start calls)) (no-items p m n a b probe e s)
+  rows-now s = calls-accept start [] calls (sits-opened p m n x e) s ∙ ap (λ (k : List Item). k ++ map itemOf (accepted s start calls)) (no-items p m n x e s)
 
   holds : Demand3 start calls
   holds = record {

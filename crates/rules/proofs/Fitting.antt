@@ -21,13 +21,13 @@ use Rattle.sheets.proofs.Changes.{memoryOf, flush-memory, store-memory}
 use Rattle.sheets.proofs.Laws.{length-list}
 use Rattle.rules.specs.Refusals.{countsFit, sessionFits}
 use Rattle.rules.specs.Fits.{Sizes}
-use Rattle.rules.specs.World.{World, pick, countOf, sheetOf, placeOf, sideOf, withNext, withLone, withPlace, flush, store, note, shut, move, pass}
+use Rattle.rules.specs.World.{World, pick, countOf, sheetOf, placeOf, sideOf, withNext, withLone, withPlace, flush, store, note, shut, move, pass, world, lengths}
 use Rattle.rules.specs.declared.Places.{Places}
 use Rattle.rules.proofs.Seen.{both-sources, Extent, extent, Seen, flush-seen, store-seen, Listable, note-seen}
 
 -- the sizes of a box are in range, and its sheets are long enough
 abbrev SizesIn : Extent → Type 0
-SizesIn e = Sizes (e .parts) (e .slots) (e .limit) (e .a) (e .b) (e .probe)
+SizesIn e = Sizes (e .parts) (e .slots) (e .limit) (e .long)
 
 -- of both sources together
 abbrev sum : (Source → ℕ) → ℕ
@@ -116,7 +116,7 @@ listable s q w f part some = record {
   counted = omega (arith, f .counted, f .sizes .parts);
   long = f .sizes .probe-long;
   short = f .short;
-  free = omega (arith, some, length-list (w .session .parts) (w .session .counts) (w .probe) s q part);
+  free = omega (arith, some, length-list (w .session .parts) (w .session .counts) (w .sheets .probe) s q part);
 }
 
 pub fit-note : (s : Source) (q last : ℕ) (w : World) → Fit w → w .session .next ≡ 0 → Listable s q w → Fit (note s q last w)
@@ -153,7 +153,7 @@ fit-shut B w f = record {
 
 -- other positions
 abbrev pub positioned : ℕ → Places → World → World
-positioned k p w = record { session = withNext k (withLone p (w .session)); a = w .a; b = w .b; probe = w .probe }
+positioned k p w = world (withNext k (withLone p (w .session))) (w .sheets)
 
 pub fit-positions : (k : ℕ) (p : Places) (w : World) → Fit w → k ≤ countOf w A * countOf w B → ((s : Source) → pick s (p .a) (p .b) ≤ countOf w s) → Fit (positioned k p w)
 fit-positions k p w f h b = record { sizes = f .sizes; few = f .few; clock = f .clock; next = h; lone = b; counted = f .counted; short = f .short }
@@ -179,7 +179,7 @@ counts-hold : (counts : List ℕ) (n : ℕ) → ((k : ℕ) → k < n → getD co
 counts-hold counts zero h = refl
 counts-hold counts (suc n) h = rw (counts-hold counts n (λ k b. h k (omega arith)), le-leb (getD counts n 0) 32 (h n (omega arith)))
 
-pub fits-hold : (w : World) → Fit w → sessionFits (w .session) (length (w .a)) (length (w .b)) (length (w .probe)) ≡ true
+pub fits-hold : (w : World) → Fit w → sessionFits (w .session) (lengths (w .sheets)) ≡ true
 unfolding sessionFits
 fits-hold w f = let t = w .session in let z = f .sizes in
     rw (
@@ -189,9 +189,9 @@ fits-hold w f = let t = w .session in let z = f .sizes in
       le-leb (t .slots) 1024 (z .slots .1),
       le-leb 1 (t .limit) (z .limit .0),
       le-leb (t .limit) 4096 (z .limit .1),
-      le-leb (rowsNeed (t .limit)) (length (w .a)) (z .a-long),
-      le-leb (rowsNeed (t .limit)) (length (w .b)) (z .b-long),
-      le-leb (probeNeed (t .parts)) (length (w .probe)) (z .probe-long),
+      le-leb (rowsNeed (t .limit)) (length (w .sheets .a)) (z .a-long),
+      le-leb (rowsNeed (t .limit)) (length (w .sheets .b)) (z .b-long),
+      le-leb (probeNeed (t .parts)) (length (w .sheets .probe)) (z .probe-long),
       le-leb (t .a .rows) (t .limit) (f .few A),
       le-leb (t .b .rows) (t .limit) (f .few B),
       le-leb (t .clock) 16384 (omega (arith, f .clock, f .few A, f .few B, z .limit)),

@@ -18,12 +18,13 @@ use Rattle.sheets.specs.Rows.{hot}
 use Rattle.rules.specs.Answers.{refused, writtenOf}
 use Rattle.rules.specs.Calls.{After, after, leaves, joins, arrives, evicts, tries, runs, owed, drains, alone, lists, effect, settle, afterCall, fresh, opens}
 use Rattle.rules.specs.Refusals.{Check, check, verdict, sizesFit, roomFor, makeRoom, idle, portionChecks, rowChecks, roomCheck, tryChecks, roomIn, checks}
-use Rattle.rules.specs.World.{World, countOf, rowsOf, flush, store, note, shut, move, pass, sideOf}
+use Rattle.rules.specs.World.{World, countOf, rowsOf, flush, store, note, shut, move, pass, sideOf, Sheets, lengths}
 use Rattle.rules.specs.declared.Call.{Call}
 use Rattle.rules.specs.declared.Call.the-variants.{Arrive, Evict, Run, Close, Drain, Lone}
 use Rattle.rules.specs.declared.Why.{Why}
 use Rattle.rules.specs.declared.Why.the-variants.{BadSheet, ListFull}
 use Rattle.rules.specs.declared.Answer.the-variants.{Opened, Ran, More, Done, MoreLone, DoneLone, Refused}
+use Rattle.rules.specs.declared.Lengths.{Lengths}
 use Rattle.rules.specs.declared.Reply.{Reply}
 use Rattle.rules.specs.declared.Verdict.{Verdict}
 use Rattle.rules.specs.declared.Verdict.the-variants.{Good, No}
@@ -33,13 +34,10 @@ use Rattle.rules.proofs.Settling.{either, verdict-first, verdict-last}
 
 -- ---- any two results that a promise allows for one input are equal
 
-pub one-result : (x : After) (r r′ : Reply) (a a′ b b′ probe probe′ o o′ : List ℕ) → leaves r a b probe o ≡ x → leaves r′ a′ b′ probe′ o′ ≡ x
-    → (r ≡ r′) × (a ≡ a′) × (b ≡ b′) × (probe ≡ probe′) × (o ≡ o′)
-one-result x r r′ a a′ b b′ probe probe′ o o′ e f = let g : leaves r a b probe o ≡ leaves r′ a′ b′ probe′ o′ = e ∙ sym f in (
+pub one-result : (x : After) (r r′ : Reply) (l l′ : Sheets) (o o′ : List ℕ) → leaves r l o ≡ x → leaves r′ l′ o′ ≡ x → (r ≡ r′) × (l ≡ l′) × (o ≡ o′)
+one-result x r r′ l l′ o o′ e f = let g : leaves r l o ≡ leaves r′ l′ o′ = e ∙ sym f in (
   λ i. record { answer = g i .answer; session = g i .world .session },
-  ap (λ (y : After). y .world .a) g,
-  ap (λ (y : After). y .world .b) g,
-  ap (λ (y : After). y .world .probe) g,
+  ap (λ (y : After). y .world .sheets) g,
   ap (λ (y : After). y .out) g,
 )
 
@@ -131,9 +129,9 @@ room-suffices cs room n h = ltb-false room n (verdict-first _ [] (verdict-last c
 
 effect-fits : (w : World) (o : List ℕ) (c : Call) → verdict (checks w c (roomIn c (length o))) ≡ Good → writtenOf (effect w o c .answer) ≤ roomIn c (length o)
 unfolding effect arrives joins evicts runs drains lists checks
-effect-fits w o (Arrive s m) h = omega (arith, room-suffices (rowChecks (w .session) s m (length (w .a)) (length (w .b)) (length (w .probe))) (roomOf (length o)) _ h)
+effect-fits w o (Arrive s m) h = omega (arith, room-suffices (rowChecks (w .session) s m (lengths (w .sheets))) (roomOf (length o)) _ h)
 effect-fits w o (Evict s q) h = omega arith
-effect-fits w o (Run s q) h = go (idle w s q) (verdict-last (portionChecks (w .session) q (length (w .a)) (length (w .b)) (length (w .probe))) _ h)
+effect-fits w o (Run s q) h = go (idle w s q) (verdict-last (portionChecks (w .session) q (lengths (w .sheets))) _ h)
   where
     crowded : List Check
     crowded = check (leb 32 (length (sideOf w s .list q))) ListFull ∷ []
@@ -156,9 +154,9 @@ written-fits w o c = go (verdict (checks w c (roomIn c (length o)))) refl
     go Good e = effect-fits w o c e
     go (No y) e = omega arith
 
-pub opens-none : (p m n a b probe : ℕ) → writtenOf (opens p m n a b probe .answer) ≡ 0
+pub opens-none : (p m n : ℕ) (k : Lengths) → writtenOf (opens p m n k .answer) ≡ 0
 unfolding opens
-opens-none p m n a b probe = go (sizesFit p m n a b probe)
+opens-none p m n k = go (sizesFit p m n k)
   where
     go : (u : Bool) → writtenOf ((cond {A = Reply} u (record { answer = Opened; session = fresh p m n }) (record { answer = Refused BadSheet; session = fresh 0 0 0 })) .answer) ≡ 0
     go true = refl

@@ -24,7 +24,7 @@ use Rattle.rules.specs.Demand3.{wrote, afterCalls, opened, ForAnyCalls}
 use Rattle.rules.specs.Lone.{asks, named, listed, toList, Lones}
 use Rattle.rules.specs.Refusals.{verdict, bothClosed, checks}
 use Rattle.rules.specs.Rounds.{Lent, Handed, sayingAt}
-use Rattle.rules.specs.World.{World, pick, same, countOf, placeOf, itemsFrom, pass}
+use Rattle.rules.specs.World.{World, pick, same, countOf, placeOf, itemsFrom, pass, Sheets, lengths}
 use Rattle.rules.specs.declared.Places.{Places}
 use Rattle.rules.specs.declared.Call.{Call}
 use Rattle.rules.specs.declared.Call.the-variants.{Lone}
@@ -186,9 +186,9 @@ passed-all t x = go (ltb (x .row) (t .rows))
 
 -- ---- all of it
 
-module _ (p m n : ℕ) (a b probe : List ℕ) (e : opens p m n (length a) (length b) (length probe) .answer ≡ Opened) (calls : List Lent) where
+module _ (p m n : ℕ) (x : Sheets) (e : opens p m n (lengths x) .answer ≡ Opened) (calls : List Lent) where
   abbrev begun : World
-  begun = opened p m n a b probe
+  begun = opened p m n x
 
   abbrev w : World
   w = afterCalls begun [] calls .world
@@ -197,11 +197,11 @@ module _ (p m n : ℕ) (a b probe : List ℕ) (e : opens p m n (length a) (lengt
   names s = listed s begun calls
 
   sits : Sits w (afterCalls begun [] calls .written)
-  sits = sits-calls begun [] calls (sits-opened p m n a b probe e)
+  sits = sits-calls begun [] calls (sits-opened p m n x e)
 
   tracks : (s : Source) → Tracks s w (names s)
-  tracks s = tracks-calls s begun [] [] calls (sits-opened p m n a b probe e)
-      (record { start = λ h. no-places p m n a b probe e s; tells = λ x. sym (none-passed (itemsFrom s begun) x (placeOf begun s) (no-places p m n a b probe e s)) })
+  tracks s = tracks-calls s begun [] [] calls (sits-opened p m n x e)
+      (record { start = λ h. no-places p m n x e s; tells = λ y. sym (none-passed (itemsFrom s begun) y (placeOf begun s) (no-places p m n x e s)) })
 
   left-alone : (s : Source) → toList begun calls s ≡ map (single (itemsFrom s w)) (alone s w)
   left-alone s = unlisted-left (itemsFrom s w) (placeOf w s) (names s) (tracks s .tells)

@@ -16,7 +16,7 @@ use Rattle.rules.specs.Calls.{After, afterCall}
 use Rattle.rules.specs.Demand3.{wrote, afterCalls}
 use Rattle.rules.specs.Refusals.{verdict, bothClosed, drainChecks, roomIn}
 use Rattle.rules.specs.Rounds.{again, Rooms, saying, Handed, ceil, sayingAt}
-use Rattle.rules.specs.World.{World}
+use Rattle.rules.specs.World.{World, lengths}
 use Rattle.rules.specs.declared.Call.{Call}
 use Rattle.rules.specs.declared.Answer.{Answer}
 use Rattle.rules.specs.declared.Verdict.the-variants.{Good}
@@ -30,7 +30,7 @@ pub record Shut (w : World) : Type 0 where
   pub closed : bothClosed (w .session) ≡ true
 
 -- a drain or a lone call with some room is not refused there
-pub shut-good : (w : World) → Shut w → (room : ℕ) → 1 ≤ room → verdict (drainChecks (w .session) room (length (w .a)) (length (w .b)) (length (w .probe))) ≡ Good
+pub shut-good : (w : World) → Shut w → (room : ℕ) → 1 ≤ room → verdict (drainChecks (w .session) room (lengths (w .sheets))) ≡ Good
 unfolding verdict
 shut-good w g room h = rw (fits-hold w (g .fit), g .closed, ne-eqb room 0 (omega arith))
 

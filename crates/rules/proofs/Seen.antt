@@ -19,8 +19,9 @@ use Rattle.sheets.specs.Rows.{portionRows, flushed, lay}
 use Rattle.sheets.proofs.Laws.{length-lay, rows-lay, rows-put}
 use Rattle.sheets.proofs.Changes.{flushedSide, storedSide, newRow, notedSide, withA}
 use Rattle.sheets.proofs.Noted.{list-own, list-facing}
+use Rattle.rules.specs.declared.Lengths.{Lengths}
 use Rattle.rules.specs.declared.Session.{Session}
-use Rattle.rules.specs.World.{World, same, countOf, sheetOf, closedOf, rowsOf, sideOf, seenFrom, flush, store, note}
+use Rattle.rules.specs.World.{World, same, countOf, sheetOf, closedOf, rowsOf, sideOf, seenFrom, flush, store, note, lengths}
 
 -- what holds of a source and of the other one holds of both
 pub both-sources : (P : Source → Type 0) (s : Source) → P s → P (other s) → (u : Source) → P u
@@ -48,17 +49,15 @@ pub record Extent : Type 0 where
   pub parts : ℕ
   pub slots : ℕ
   pub limit : ℕ
-  pub a : ℕ
-  pub b : ℕ
-  pub probe : ℕ
+  pub long : Lengths
 
 -- of a record and sheets of these lengths
-abbrev sized : Session → ℕ → ℕ → ℕ → Extent
-sized t a b probe = record { parts = t .parts; slots = t .slots; limit = t .limit; a = a; b = b; probe = probe }
+abbrev sized : Session → Lengths → Extent
+sized t k = record { parts = t .parts; slots = t .slots; limit = t .limit; long = k }
 
 -- of a box
 abbrev pub extent : World → Extent
-extent w = sized (w .session) (length (w .a)) (length (w .b)) (length (w .probe))
+extent w = sized (w .session) (lengths (w .sheets))
 
 -- w′ is w but for the clock and what the sheets hold of source s
 pub record Seen (s : Source) (w w′ : World) (clock : ℕ) (d : Side) : Type 0 where
@@ -77,8 +76,8 @@ seen-from s w w′ clock d h = λ i. record { parts = h .same-extent i .parts; a
 
 -- the extent with another length of one row sheet
 abbrev resized : Source → World → ℕ → Extent
-resized A w n = sized (w .session) n (length (w .b)) (length (w .probe))
-resized B w n = sized (w .session) (length (w .a)) n (length (w .probe))
+resized A w n = let k = lengths (w .sheets) in sized (w .session) (record { a = n; b = k .b; probe = k .probe })
+resized B w n = let k = lengths (w .sheets) in sized (w .session) (record { a = k .a; b = n; probe = k .probe })
 
 -- a side with other rows
 abbrev rowed : ℕ → Side → (ℕ → Row) → Side
@@ -150,7 +149,7 @@ store-seen s item w h = go s (rows-put (sheetOf w s) (countOf w s) new h) (lengt
 pub record Listable (s : Source) (q : ℕ) (w : World) : Type 0 where
   pub part : q < w .session .parts
   pub counted : 2 * w .session .parts ≤ length (w .session .counts)
-  pub long : probeNeed (w .session .parts) ≤ length (w .probe)
+  pub long : probeNeed (w .session .parts) ≤ length (w .sheets .probe)
   pub short : (k : ℕ) → k < 2 * w .session .parts → getD (w .session .counts) k 0 ≤ 32
   pub free : getD (w .session .counts) (listNo (w .session .parts) s q) 0 < 32
 
@@ -160,10 +159,10 @@ unfolding note
 note-seen s q last w h = let e : Entry = record { last = last; probe = w .session .clock } in
     record {
       own = ap (λ (f : ℕ → List Entry). record { count = countOf w s; row = rowsOf w s; list = f })
-          (fun-ext (list-own (w .session .parts) (w .session .counts) (w .probe) s q e (h .part) (h .counted) (h .long) (h .short) (h .free)));
+          (fun-ext (list-own (w .session .parts) (w .session .counts) (w .sheets .probe) s q e (h .part) (h .counted) (h .long) (h .short) (h .free)));
       facing = ap (λ (f : ℕ → List Entry). record { count = countOf w (other s); row = rowsOf w (other s); list = f })
-          (fun-ext (list-facing (w .session .parts) (w .session .counts) (w .probe) s q e (h .part) (h .counted) (h .long) (h .short) (h .free)));
-      same-extent = ap (sized (w .session) (length (w .a)) (length (w .b))) (length-putEntry (listNo (w .session .parts) s q) _ e (w .probe));
+          (fun-ext (list-facing (w .session .parts) (w .session .counts) (w .sheets .probe) s q e (h .part) (h .counted) (h .long) (h .short) (h .free)));
+      same-extent = ap (λ (n : ℕ). sized (w .session) (record { a = length (w .sheets .a); b = length (w .sheets .b); probe = n })) (length-putEntry (listNo (w .session .parts) s q) _ e (w .sheets .probe));
       new-clock = refl;
       same-next = refl;
       same-lone = refl;

@@ -16,6 +16,7 @@ use Rattle.rules.specs.declared.Why.{Why}
 use Rattle.rules.specs.declared.Why.the-variants.{BadSheet}
 use Rattle.rules.specs.declared.Answer.{Answer}
 use Rattle.rules.specs.declared.Answer.the-variants.{Refused}
+use Rattle.rules.specs.declared.Lengths.{Lengths}
 use Rattle.rules.specs.declared.Session.{Session}
 use Rattle.rules.specs.declared.Verdict.the-variants.{Good, No}
 use Rattle.rules.proofs.Checks.{fits-are}
@@ -77,5 +78,5 @@ verdict-no (c ∷ cs) ds y h = go (c .fails) h (verdict-no cs ds y)
     go false e ih = ih e
 
 -- a call that is not refused passed number 1
-pub good-fits : (t : Session) (a b probe : ℕ) (cs : List Check) → verdict (check (not (sessionFits t a b probe)) BadSheet ∷ cs) ≡ Good → Fits t a b probe
-good-fits t a b probe cs h = fits-are t a b probe (not-false _ (verdict-first _ cs h))
+pub good-fits : (t : Session) (k : Lengths) (cs : List Check) → verdict (check (not (sessionFits t k)) BadSheet ∷ cs) ≡ Good → Fits t k
+good-fits t k cs h = fits-are t k (not-false _ (verdict-first _ cs h))

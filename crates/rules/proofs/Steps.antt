@@ -25,7 +25,7 @@ use Rattle.rules.specs.Answers.{pairsOf}
 use Rattle.rules.specs.Calls.{After, after, joins, arrives, evicts, tries, runs, owed, drains, alone, lists, effect, settle, afterCall}
 use Rattle.rules.specs.Demand3.{wrote}
 use Rattle.rules.specs.Refusals.{verdict, tryChecks, roomFor, makeRoom, arrived, idle, ran, bothClosed, portionChecks, roomIn, checks}
-use Rattle.rules.specs.World.{World, countOf, sheetOf, closedOf, rowsOf, seenFrom, itemsFrom, placeOf, flush, shut, move, pass}
+use Rattle.rules.specs.World.{World, countOf, sheetOf, closedOf, rowsOf, seenFrom, itemsFrom, placeOf, flush, shut, move, pass, lengths}
 use Rattle.rules.specs.declared.Call.{Call}
 use Rattle.rules.specs.declared.Call.the-variants.{Arrive, Evict, Run, Close, Drain, Lone}
 use Rattle.rules.specs.declared.Answer.the-variants.{Ran, More, Done, MoreLone, DoneLone}
@@ -121,7 +121,7 @@ module _ (w : World) (l : List Told) (o : List ℕ) (g : Sits w l) where
   unfolding checks effect runs
   sits-run s q h = go (idle w s q) h
     where
-      go : (u : Bool) → verdict (portionChecks (w .session) q (length (w .a)) (length (w .b)) (length (w .probe))
+      go : (u : Bool) → verdict (portionChecks (w .session) q (lengths (w .sheets))
           ++ cond u [] (tryChecks w s q (roomOf (length o)))) ≡ Good
           → Goes (cond u (after (Ran 0) w o) (tries s q w o))
       go true h = nothing w g

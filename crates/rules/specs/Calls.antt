@@ -15,8 +15,9 @@ use Rattle.sheets.specs.Pairs.{Pair, position, pairsFrom, tellAll, told, putFro
 use Rattle.sheets.specs.Rooms.{onward, putAll}
 use Rattle.sheets.specs.Rows.{portionRows, latest}
 use Rattle.sheets.specs.declared.pairs.Scope.the-variants.{All}
-use Rattle.rules.specs.World.{World, world, countOf, rowsOf, seenFrom, placeOf, itemsFrom, flush, store, note, shut, move, pass}
+use Rattle.rules.specs.World.{World, world, countOf, rowsOf, seenFrom, placeOf, itemsFrom, flush, store, note, shut, move, pass, Sheets}
 use Rattle.rules.specs.Refusals.{verdict, sizesFit, roomFor, makeRoom, arrived, idle, ran, roomIn, checks}
+use Rattle.rules.specs.declared.Lengths.{Lengths}
 use Rattle.rules.specs.declared.Session.{Session}
 use Rattle.rules.specs.declared.Call.{Call}
 use Rattle.rules.specs.declared.Call.the-variants.{Arrive, Evict, Run, Close, Drain, Lone}
@@ -38,8 +39,8 @@ abbrev pub after : Answer → World → List ℕ → After
 after n w o = record { answer = n; world = w; out = o }
 
 -- what a call hands back, with the sheets and the output as it leaves them
-abbrev pub leaves : Reply → List ℕ → List ℕ → List ℕ → List ℕ → After
-leaves r a b probe o = after (r .answer) (world (r .session) a b probe) o
+abbrev pub leaves : Reply → Sheets → List ℕ → After
+leaves r x o = after (r .answer) (world (r .session) x) o
 
 -- ---- what a call that is not refused does
 
@@ -125,6 +126,6 @@ fresh p m n = record {
 }
 
 -- "a refused opening, which was given none, hands back one of zeros with nothing closed"
-unfoldable pub opens : ℕ → ℕ → ℕ → ℕ → ℕ → ℕ → Reply
-opens p m n a b probe =
-    cond (sizesFit p m n a b probe) (record { answer = Opened; session = fresh p m n }) (record { answer = Refused BadSheet; session = fresh 0 0 0 })
+unfoldable pub opens : ℕ → ℕ → ℕ → Lengths → Reply
+opens p m n k =
+    cond (sizesFit p m n k) (record { answer = Opened; session = fresh p m n }) (record { answer = Refused BadSheet; session = fresh 0 0 0 })

@@ -20,7 +20,7 @@ use Rattle.rules.specs.Answers.{pairsOf, refused}
 use Rattle.rules.specs.Calls.{After, afterCall, opens}
 use Rattle.rules.specs.Refusals.{bothClosed}
 use Rattle.rules.specs.Rounds.{Lent, again, Rooms, Handed, sayingAt}
-use Rattle.rules.specs.World.{World, same, countOf, rowsOf, seenFrom}
+use Rattle.rules.specs.World.{World, same, countOf, rowsOf, seenFrom, Sheets, lengths}
 use Rattle.rules.specs.declared.Call.{Call}
 use Rattle.rules.specs.declared.Call.the-variants.{Arrive, Evict, Run, Close, Drain, Lone}
 use Rattle.rules.specs.declared.Why.the-variants.{BadSheet}
@@ -43,13 +43,13 @@ afterCalls w l [] = record { world = w; written = l }
 afterCalls w l (c ∷ cs) = let r = afterCall w (c .out) (c .call) in afterCalls (r .world) (l ++ wrote r) cs
 
 -- the box as the opening hands it over, with sheets of any content
-abbrev pub opened : ℕ → ℕ → ℕ → List ℕ → List ℕ → List ℕ → World
-opened p m n a b probe = record { session = opens p m n (length a) (length b) (length probe) .session; a = a; b = b; probe = probe }
+abbrev pub opened : ℕ → ℕ → ℕ → Sheets → World
+opened p m n x = record { session = opens p m n (lengths x) .session; sheets = x }
 
 -- what is said of a box and the calls made on it holds "for any order of calls after an opening": for P, M, N and sheets that an opening accepts
 abbrev pub ForAnyCalls : (World → List Lent → Type 0) → Type 0
 ForAnyCalls Says =
-    (p m n : ℕ) (a b probe : List ℕ) → opens p m n (length a) (length b) (length probe) .answer ≡ Opened → (calls : List Lent) → Says (opened p m n a b probe) calls
+    (p m n : ℕ) (x : Sheets) → opens p m n (lengths x) .answer ≡ Opened → (calls : List Lent) → Says (opened p m n x) calls
 
 -- ---- the rows that were accepted
 

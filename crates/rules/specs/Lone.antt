@@ -16,7 +16,7 @@ use Rattle.rules.specs.Calls.{After, afterCall}
 use Rattle.rules.specs.Demand3.{afterCalls, now}
 use Rattle.rules.specs.Refusals.{bothClosed}
 use Rattle.rules.specs.Rounds.{Lent, again, Rooms, Handed, sayingAt}
-use Rattle.rules.specs.World.{World, same, itemsFrom}
+use Rattle.rules.specs.World.{World, same, itemsFrom, Sheets}
 use Rattle.rules.specs.declared.Call.{Call}
 use Rattle.rules.specs.declared.Call.the-variants.{Arrive, Evict, Run, Close, Drain, Lone}
 use Rattle.rules.specs.declared.Answer.{Answer}
@@ -48,13 +48,11 @@ listed s w (c ∷ cs) = let r = afterCall w (c .out) (c .call) in cond (asks s (
 pub record Heard : Type 0 where
   pub answer : Answer
   pub out : List ℕ
-  pub a : List ℕ
-  pub b : List ℕ
-  pub probe : List ℕ
+  pub sheets : Sheets
 
 -- of one call
 abbrev pub heardOf : After → Heard
-heardOf r = record { answer = r .answer; out = r .out; a = r .world .a; b = r .world .b; probe = r .world .probe }
+heardOf r = record { answer = r .answer; out = r .out; sheets = r .world .sheets }
 
 -- of those calls of a list that pass a test
 abbrev pub heard : (Call → Bool) → World → List Lent → List Heard

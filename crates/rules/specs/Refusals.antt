@@ -17,7 +17,8 @@ use Rattle.sheets.specs.Pairs.{Pair, arrivalPairs, wantedPairs}
 use Rattle.sheets.specs.Rows.{memoryRows, spooled, victim}
 use Rattle.sheets.specs.declared.pairs.Scope.the-variants.{Portion}
 use Rattle.sheets.specs.declared.rows.Victim.{Victim}
-use Rattle.rules.specs.World.{World, pick, countOf, rowsOf, sideOf, seenFrom, flush}
+use Rattle.rules.specs.World.{World, pick, countOf, rowsOf, sideOf, seenFrom, flush, lengths}
+use Rattle.rules.specs.declared.Lengths.{Lengths}
 use Rattle.rules.specs.declared.Places.{Places}
 use Rattle.rules.specs.declared.Session.{Session}
 use Rattle.rules.specs.declared.Call.{Call}
@@ -52,13 +53,13 @@ abbrev pub between : ℕ → ℕ → ℕ → Bool
 between low high n = leb low n && leb n high
 
 -- "P, M or N out of range; a sheet too short"
-abbrev pub sizeTests : ℕ → ℕ → ℕ → ℕ → ℕ → ℕ → List Bool
-sizeTests p m n a b probe =
-    between 1 16 p ∷ between 1 1024 m ∷ between 1 4096 n ∷ leb (rowsNeed n) a ∷ leb (rowsNeed n) b ∷ leb (probeNeed p) probe ∷ []
+abbrev pub sizeTests : ℕ → ℕ → ℕ → Lengths → List Bool
+sizeTests p m n k =
+    between 1 16 p ∷ between 1 1024 m ∷ between 1 4096 n ∷ leb (rowsNeed n) (k .a) ∷ leb (rowsNeed n) (k .b) ∷ leb (probeNeed p) (k .probe) ∷ []
 
 -- all of these
-abbrev pub sizesFit : ℕ → ℕ → ℕ → ℕ → ℕ → ℕ → Bool
-sizesFit p m n a b probe = allOf (sizeTests p m n a b probe)
+abbrev pub sizesFit : ℕ → ℕ → ℕ → Lengths → Bool
+sizesFit p m n k = allOf (sizeTests p m n k)
 
 -- "a row count above N; clock above 16384; .. position above A rows x B rows", a position of the lone calls "above its row count"
 abbrev pub numberTests : ℕ → ℕ → ℕ → ℕ → ℕ → Places → List Bool
@@ -75,9 +76,9 @@ countsFit counts zero = true
 countsFit counts (suc n) = countsFit counts n && leb (getD counts n 0) 32
 
 -- number 1 of every call on a record
-unfoldable pub sessionFits : Session → ℕ → ℕ → ℕ → Bool
-sessionFits t a b probe =
-    sizesFit (t .parts) (t .slots) (t .limit) a b probe
+unfoldable pub sessionFits : Session → Lengths → Bool
+sessionFits t k =
+    sizesFit (t .parts) (t .slots) (t .limit) k
     && (numbersFit (t .limit) (t .clock) (t .a .rows) (t .b .rows) (t .next) (t .lone) && countsFit (t .counts) (2 * t .parts))
 
 -- ---- an arrival
@@ -120,26 +121,26 @@ abbrev pub bothClosed : Session → Bool
 bothClosed t = t .a .closed && t .b .closed
 
 -- a named portion: numbers 1, 3 and 4
-abbrev pub portionChecks : Session → ℕ → ℕ → ℕ → ℕ → List Check
-portionChecks t q a b probe = check (not (sessionFits t a b probe)) BadSheet ∷ check (leb (t .parts) q) BadPart ∷ check (bothClosed t) Closed ∷ []
+abbrev pub portionChecks : Session → ℕ → Lengths → List Check
+portionChecks t q k = check (not (sessionFits t k)) BadSheet ∷ check (leb (t .parts) q) BadPart ∷ check (bothClosed t) Closed ∷ []
 
 -- a new row, but for its pairs: numbers 1, 2, 4 and 5
-abbrev pub rowChecks : Session → Source → Message → ℕ → ℕ → ℕ → List Check
-rowChecks t s m a b probe =
-    check (not (sessionFits t a b probe)) BadSheet
+abbrev pub rowChecks : Session → Source → Message → Lengths → List Check
+rowChecks t s m k =
+    check (not (sessionFits t k)) BadSheet
     ∷ check (not (inRange m)) BadKey
     ∷ check (pick s (t .a) (t .b) .closed) Closed
     ∷ check (leb (t .limit) (pick s (t .a) (t .b) .rows)) SheetFull
     ∷ []
 
 -- a close: numbers 1 and 4
-abbrev pub closeChecks : Session → Source → ℕ → ℕ → ℕ → List Check
-closeChecks t s a b probe = check (not (sessionFits t a b probe)) BadSheet ∷ check (pick s (t .a) (t .b) .closed) Closed ∷ []
+abbrev pub closeChecks : Session → Source → Lengths → List Check
+closeChecks t s k = check (not (sessionFits t k)) BadSheet ∷ check (pick s (t .a) (t .b) .closed) Closed ∷ []
 
 -- a drain or a lone call: numbers 1, 7 and 8
-abbrev pub drainChecks : Session → ℕ → ℕ → ℕ → ℕ → List Check
-drainChecks t room a b probe =
-    check (not (sessionFits t a b probe)) BadSheet ∷ check (not (bothClosed t)) StillOpen ∷ check (eqb room 0) (RoomShort 1) ∷ []
+abbrev pub drainChecks : Session → ℕ → Lengths → List Check
+drainChecks t room k =
+    check (not (sessionFits t k)) BadSheet ∷ check (not (bothClosed t)) StillOpen ∷ check (eqb room 0) (RoomShort 1) ∷ []
 
 -- the pairs have to fit the room
 abbrev pub roomCheck : ℕ → ℕ → Check
@@ -165,11 +166,11 @@ roomIn (Lone s) words = singleRoom words
 -- every call, with the room of its output
 unfoldable pub checks : World → Call → ℕ → List Check
 checks w (Arrive s m) room =
-    rowChecks (w .session) s m (length (w .a)) (length (w .b)) (length (w .probe))
+    rowChecks (w .session) s m (lengths (w .sheets))
     ++ (roomCheck room (length (arrived s (itemOf m) (makeRoom (roomFor w) w))) ∷ [])
-checks w (Evict s q) room = portionChecks (w .session) q (length (w .a)) (length (w .b)) (length (w .probe))
+checks w (Evict s q) room = portionChecks (w .session) q (lengths (w .sheets))
 checks w (Run s q) room =
-    portionChecks (w .session) q (length (w .a)) (length (w .b)) (length (w .probe)) ++ runChecks w s q room
-checks w (Close s) room = closeChecks (w .session) s (length (w .a)) (length (w .b)) (length (w .probe))
-checks w Drain room = drainChecks (w .session) room (length (w .a)) (length (w .b)) (length (w .probe))
-checks w (Lone s) room = drainChecks (w .session) room (length (w .a)) (length (w .b)) (length (w .probe))
+    portionChecks (w .session) q (lengths (w .sheets)) ++ runChecks w s q room
+checks w (Close s) room = closeChecks (w .session) s (lengths (w .sheets))
+checks w Drain room = drainChecks (w .session) room (lengths (w .sheets))
+checks w (Lone s) room = drainChecks (w .session) room (lengths (w .sheets))

@@ -14,7 +14,7 @@ use Rattle.sheets.specs.Lists.{entries, listOf, probedAt}
 use Rattle.sheets.specs.Rows.{lay, largestPart, victim}
 use Rattle.sheets.specs.Pairs.{arrivalPairs, wanted, wantedPairs, pairsFrom, pairsAt}
 use Rattle.rules.specs.Answers.{pairsOf}
-use Rattle.rules.specs.World.{World, flush, store, note, shut, move}
+use Rattle.rules.specs.World.{World, flush, store, note, shut, move, world, lent}
 use Rattle.rules.specs.Refusals.{verdict, sessionFits, roomFor, checks}
 use Rattle.rules.specs.Calls.{After, fresh, joins, arrives, evicts, runs, drains, effect, afterCall}
 use Rattle.rules.specs.declared.Call.{Call}
@@ -47,7 +47,7 @@ key lap = 1007000 + lap
 
 -- START,2,3,8 on sheets of zeros
 unfoldable pub started : Played
-started = record { world = record { session = fresh 2 3 8; a = replicate 24 0; b = replicate 24 0; probe = replicate 256 0 }; answers = []; pairs = [] }
+started = record { world = world (fresh 2 3 8) (lent (replicate 24 0) (replicate 24 0) (replicate 256 0)); answers = []; pairs = [] }
 
 -- a pair of these rows
 abbrev pub told : ℕ → ℕ → ℕ → Told
@@ -86,9 +86,7 @@ stage clock a b counts entry rowsA answers pairs = record {
       next = 0;
       lone = record { a = 0; b = 0 };
     };
-    a = a ++ replicate 15 0;
-    b = b ++ replicate 15 0;
-    probe = entry ++ replicate 254 0;
+    sheets = lent (a ++ replicate 15 0) (b ++ replicate 15 0) (entry ++ replicate 254 0);
   };
   answers = answers;
   pairs = pairs;
@@ -127,8 +125,6 @@ first-is = refl
 -- and after the drains: four answers and two pairs more, and no word of the sheets changed
 drained-is : (drained runStage .answers ≡ runStage .answers ++ (Shut ∷ Shut ∷ More 1 ∷ Done 1 ∷ []))
     × (drained runStage .pairs ≡ runStage .pairs ++ (told 2 0 12 ∷ told 2 2 12 ∷ []))
-    × (drained runStage .world .a ≡ runStage .world .a)
-    × (drained runStage .world .b ≡ runStage .world .b)
-    × (drained runStage .world .probe ≡ runStage .world .probe)
+    × (drained runStage .world .sheets ≡ runStage .world .sheets)
 unfolding drained inRange itemOf itemsMatch partOf alive presentAt together covers used doneBefore rowAt putRow entryAt putEntry pairAt putPair entries listOf probedAt lay largestPart victim arrivalPairs wanted wantedPairs pairsFrom flush store note shut move verdict sessionFits roomFor checks joins arrives evicts runs drains effect afterCall ask play
-drained-is = (refl, refl, refl, refl, refl)
+drained-is = (refl, refl, refl)

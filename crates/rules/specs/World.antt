@@ -2,7 +2,7 @@
 use mathlib.Core.Bool.{Bool, true, false}
 use mathlib.Core.List.{List}
 use Prim.Native.Nat.{ℕ, suc, _+_}
-use lib.ListN.{getD, set}
+use lib.ListN.{length, getD, set}
 use Rattle.stamps.specs.declared.Source.{Source}
 use Rattle.stamps.specs.declared.Source.the-variants.{A, B}
 use Rattle.stamps.specs.declared.Item.{Item}
@@ -14,19 +14,32 @@ use Rattle.sheets.specs.Rows.{portionRows, flushed, lay}
 use Rattle.sheets.specs.Lones.{Items, itemsIn}
 use Rattle.sheets.specs.Pairs.{Side, Table}
 use Rattle.rules.specs.declared.Feed.{Feed}
+use Rattle.rules.specs.declared.Lengths.{Lengths}
 use Rattle.rules.specs.declared.Places.{Places}
 use Rattle.rules.specs.declared.Session.{Session}
 
--- all that a call is given but its arguments and its output
-pub record World : Type 0 where
-  pub session : Session
+-- all sheets that a call is lent: the rows of each source, and the probe lists
+pub record Sheets : Type 0 where
   pub a : List ℕ
   pub b : List ℕ
   pub probe : List ℕ
 
+-- these sheets
+abbrev pub lent : List ℕ → List ℕ → List ℕ → Sheets
+lent a b probe = record { a = a; b = b; probe = probe }
+
+-- their lengths
+abbrev pub lengths : Sheets → Lengths
+lengths x = record { a = length (x .a); b = length (x .b); probe = length (x .probe) }
+
+-- all that a call is given but its arguments and its output
+pub record World : Type 0 where
+  pub session : Session
+  pub sheets : Sheets
+
 -- a record and sheets
-abbrev pub world : Session → List ℕ → List ℕ → List ℕ → World
-world t a b probe = record { session = t; a = a; b = b; probe = probe }
+abbrev pub world : Session → Sheets → World
+world t x = record { session = t; sheets = x }
 
 -- ---- one source of the two
 
@@ -48,7 +61,7 @@ feedOf w s = pick s (w .session .a) (w .session .b)
 
 -- its row sheet
 abbrev pub sheetOf : World → Source → List ℕ
-sheetOf w s = pick s (w .a) (w .b)
+sheetOf w s = pick s (w .sheets .a) (w .sheets .b)
 
 -- its rows accepted
 abbrev pub countOf : World → Source → ℕ
@@ -68,7 +81,7 @@ rowsOf w s = rowAt (sheetOf w s)
 
 -- all that the sheets hold of it
 abbrev pub sideOf : World → Source → Side
-sideOf w s = record { count = countOf w s; row = rowsOf w s; list = listOf (w .session .parts) (w .session .counts) (w .probe) s }
+sideOf w s = record { count = countOf w s; row = rowsOf w s; list = listOf (w .session .parts) (w .session .counts) (w .sheets .probe) s }
 
 -- the rows and lists, with source s in the first place
 abbrev pub seenFrom : Source → World → Table
@@ -107,38 +120,48 @@ abbrev pub withPlace : Source → ℕ → Places → Places
 withPlace A k p = record { a = k; b = p .b }
 withPlace B k p = record { a = p .a; b = k }
 
--- another record, and another sheet of one source
-abbrev pub withSheet : Source → Session → List ℕ → World → World
-withSheet A t l w = record { session = t; a = l; b = w .b; probe = w .probe }
-withSheet B t l w = record { session = t; a = w .a; b = l; probe = w .probe }
+-- ---- one of the sheets changed
+
+-- that of one source
+abbrev pub withSheet : Source → List ℕ → Sheets → Sheets
+withSheet A l x = record { a = l; b = x .b; probe = x .probe }
+withSheet B l x = record { a = x .a; b = l; probe = x .probe }
+
+-- those of both
+abbrev pub withRows : List ℕ → List ℕ → Sheets → Sheets
+withRows a b x = withSheet A a (withSheet B b x)
+
+-- the probe sheet
+abbrev pub withProbe : List ℕ → Sheets → Sheets
+withProbe l x = record { a = x .a; b = x .b; probe = l }
 
 -- ---- what the calls are made of: each says which fields and which words it changes
 
 -- flush of a portion: one clock tick a row
 unfoldable pub flush : Source → ℕ → World → World
 flush s q w = let t = w .session in
-    withSheet s (withClock (t .clock + portionRows (t .parts) q (rowsOf w s) (countOf w s)) t)
-    (lay (flushed (t .parts) q (t .clock) (rowsOf w s)) (countOf w s) (sheetOf w s)) w
+    world (withClock (t .clock + portionRows (t .parts) q (rowsOf w s) (countOf w s)) t)
+    (withSheet s (lay (flushed (t .parts) q (t .clock) (rowsOf w s)) (countOf w s) (sheetOf w s)) (w .sheets))
 
 -- "the clock goes up by one and the row is stored with ATS = clock, DTS 0"
 unfoldable pub store : Source → Item → World → World
 store s item w = let t = w .session in
-    withSheet s (withFeed s (record { rows = suc (countOf w s); closed = closedOf w s }) (withClock (suc (t .clock)) t))
-    (putRow (countOf w s) (record { item = item; ats = suc (t .clock); dts = 0 }) (sheetOf w s)) w
+    world (withFeed s (record { rows = suc (countOf w s); closed = closedOf w s }) (withClock (suc (t .clock)) t))
+    (withSheet s (putRow (countOf w s) (record { item = item; ats = suc (t .clock); dts = 0 }) (sheetOf w s)) (w .sheets))
 
 -- "one entry is added .. (largest DTS .., clock)"
 unfoldable pub note : Source → ℕ → ℕ → World → World
 note s q last w = let t = w .session in let k = listNo (t .parts) s q in let n = getD (t .counts) k 0 in
-    record { session = withCounts (set (t .counts) k (suc n)) t; a = w .a; b = w .b; probe = putEntry k n (record { last = last; probe = t .clock }) (w .probe) }
+    world (withCounts (set (t .counts) k (suc n)) t) (withProbe (putEntry k n (record { last = last; probe = t .clock }) (w .sheets .probe)) (w .sheets))
 
 -- a source marked as closed
 unfoldable pub shut : Source → World → World
-shut s w = record { session = withFeed s (record { rows = countOf w s; closed = true }) (w .session); a = w .a; b = w .b; probe = w .probe }
+shut s w = world (withFeed s (record { rows = countOf w s; closed = true }) (w .session)) (w .sheets)
 
 -- the drain position moved
 unfoldable pub move : ℕ → World → World
-move k w = record { session = withNext k (w .session); a = w .a; b = w .b; probe = w .probe }
+move k w = world (withNext k (w .session)) (w .sheets)
 
 -- the position of a source's lone calls moved
 unfoldable pub pass : Source → ℕ → World → World
-pass s k w = record { session = withLone (withPlace s k (w .session .lone)) (w .session); a = w .a; b = w .b; probe = w .probe }
+pass s k w = world (withLone (withPlace s k (w .session .lone)) (w .session)) (w .sheets)

@@ -3,7 +3,7 @@
 use borrow.Author.Needs.{needs}
 use Rattle.stamps.specs.declared.Source.the-variants.{A, B}
 use native.Mathlib.Omega.{arith}
-use Rattle.rules.specs.World.{world}
+use Rattle.rules.specs.World.{world, lent, withRows}
 use Rattle.calls.proofs.Arrivals.{arrived-count}
 use mathlib.Core.List.{[]}
 use Rattle.calls.proofs.arriving.count_pairs.Statement.{statement}
@@ -12,12 +12,12 @@ use Rattle.calls.proofs.arriving.count_pairs.Tie as tie
 returns : tie.Need-returns
 returns c =
     let entry = c .before .before .before .before .before .before in
-    (λ probe. rw (c .before .before .enum-told .given .1) (arrived-count A (entry .args .item) (entry .args .room) (world (entry .args .session) (entry .args .a .now) (entry .args .b .now) probe) _ (entry .pre .b-long) (c .count-new .ensures) .0), omega (arith, arrived-count A (entry .args .item) (entry .args .room) (world (entry .args .session) (entry .args .a .now) (entry .args .b .now) []) (c .count-new .result) (entry .pre .b-long) (c .count-new .ensures) .1, entry .pre .b-few))
+    (λ x. rw (c .before .before .enum-told .given .1) (arrived-count A (entry .args .item) (entry .args .room) (world (entry .args .session) (withRows (entry .args .a .now) (entry .args .b .now) x)) _ (entry .pre .b-long) (c .count-new .ensures) .0), omega (arith, arrived-count A (entry .args .item) (entry .args .room) (world (entry .args .session) (lent (entry .args .a .now) (entry .args .b .now) [])) (c .count-new .result) (entry .pre .b-long) (c .count-new .ensures) .1, entry .pre .b-few))
 
 returns-2 : tie.Need-returns-2
 returns-2 c =
     let entry = c .before .before .before .before .before .before in
-    (λ probe. rw (c .before .before .enum-told2 .given .1) (arrived-count B (entry .args .item) (entry .args .room) (world (entry .args .session) (entry .args .a .now) (entry .args .b .now) probe) _ (entry .pre .a-long) (c .count-new2 .ensures) .0), omega (arith, arrived-count B (entry .args .item) (entry .args .room) (world (entry .args .session) (entry .args .a .now) (entry .args .b .now) []) (c .count-new2 .result) (entry .pre .a-long) (c .count-new2 .ensures) .1, entry .pre .a-few))
+    (λ x. rw (c .before .before .enum-told2 .given .1) (arrived-count B (entry .args .item) (entry .args .room) (world (entry .args .session) (withRows (entry .args .a .now) (entry .args .b .now) x)) _ (entry .pre .a-long) (c .count-new2 .ensures) .0), omega (arith, arrived-count B (entry .args .item) (entry .args .room) (world (entry .args .session) (lent (entry .args .a .now) (entry .args .b .now) [])) (c .count-new2 .result) (entry .pre .a-long) (c .count-new2 .ensures) .1, entry .pre .a-few))
 
 pub count-pairs-spec : {M : Type 1} → statement M
 count-pairs-spec =

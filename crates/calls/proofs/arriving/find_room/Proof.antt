@@ -20,11 +20,11 @@ returns : tie.Need-returns
 unfolding roomFor
 returns c =
     let at-count-memory = c .before .before .before .before in
-    λ probe. rw (← at-count-memory .count-memory .ensures, ← c .before .before .before .count-memory2 .ensures, le-leb _ _ (c .before .if1 .taken), ← c .find-victim .ensures)
+    λ x. rw (← at-count-memory .count-memory .ensures, ← c .before .before .before .count-memory2 .ensures, le-leb _ _ (c .before .if1 .taken), ← c .find-victim .ensures)
 
 returns-2 : tie.Need-returns-2
 unfolding roomFor
-returns-2 c = λ probe. rw (← c .before .before .before .count-memory .ensures, ← c .before .before .count-memory2 .ensures, lt-leb _ _ (c .if1 .left))
+returns-2 c = λ x. rw (← c .before .before .before .count-memory .ensures, ← c .before .before .count-memory2 .ensures, lt-leb _ _ (c .if1 .left))
 
 pub find-room-spec : {M : Type 1} → statement M
 find-room-spec =

@@ -5,13 +5,13 @@ use Rattle.calls.proofs.arriving.make_room.Statement.{statement}
 use Rattle.calls.proofs.arriving.make_room.Tie as tie
 
 returns : tie.Need-returns
-returns c = λ probe. rw (c .enum-told .given .1)
+returns c = λ x. rw (c .enum-told .given .1)
 
 returns-2 : tie.Need-returns-2
 returns-2 c =
     let at-clear = c .before .before .before .before .before in
     let at-room = at-clear .before .before .before .before in
-    λ probe. rw (at-room .room .given .1) (at-clear .clear .ensures .worlds probe)
+    λ x. rw (at-room .room .given .1) (at-clear .clear .ensures .worlds x)
 
 pub make-room-spec : {M : Type 1} → statement M
 make-room-spec =

@@ -4,7 +4,7 @@ use borrow.Author.Needs.{needs}
 use mathlib.Core.Path.{ap}
 use native.Mathlib.Omega.{arith}
 use Rattle.stamps.specs.declared.Source.the-variants.{A, B}
-use Rattle.rules.specs.World.{world}
+use Rattle.rules.specs.World.{world, withRows}
 use Rattle.calls.proofs.Arrivals.{stored, rows-few}
 use Rattle.rules.specs.declared.Feed.{Feed}
 use Rattle.calls.proofs.arriving.store_row.Statement.{statement}
@@ -33,7 +33,7 @@ returns c =
     let at-with-feed = at-enum-told .before .before in
     let at-feed-of = at-with-feed .before .before in
     let entry = at-feed-of .before .before .before in
-    λ probe. rw (at-with-feed .with-feed .ensures, at-feed-of .feed-of .ensures, at-enum-told .enum-told .given .1) (stored A _ (world (entry .args .session) _ _ probe) _ (rw (at-feed-of .feed-of .ensures, at-enum-told .enum-told .given .1) at (c .before .before .put-row .ensures)))
+    λ x. rw (at-with-feed .with-feed .ensures, at-feed-of .feed-of .ensures, at-enum-told .enum-told .given .1) (stored A _ (world (entry .args .session) (withRows _ _ x)) _ (rw (at-feed-of .feed-of .ensures, at-enum-told .enum-told .given .1) at (c .before .before .put-row .ensures)))
 
 returns-2 : tie.Need-returns-2
 returns-2 c =
@@ -41,7 +41,7 @@ returns-2 c =
     let at-with-feed = at-enum-told2 .before .before in
     let at-feed-of = at-with-feed .before .before in
     let entry = at-feed-of .before .before .before in
-    λ probe. rw (at-with-feed .with-feed .ensures, at-feed-of .feed-of .ensures, at-enum-told2 .enum-told2 .given .1) (stored B _ (world (entry .args .session) _ _ probe) _ (rw (at-feed-of .feed-of .ensures, at-enum-told2 .enum-told2 .given .1) at (c .before .before .put-row2 .ensures)))
+    λ x. rw (at-with-feed .with-feed .ensures, at-feed-of .feed-of .ensures, at-enum-told2 .enum-told2 .given .1) (stored B _ (world (entry .args .session) (withRows _ _ x)) _ (rw (at-feed-of .feed-of .ensures, at-enum-told2 .enum-told2 .given .1) at (c .before .before .put-row2 .ensures)))
 
 pub store-row-spec : {M : Type 1} → statement M
 store-row-spec =

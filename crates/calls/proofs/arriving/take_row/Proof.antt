@@ -19,7 +19,7 @@ write-pairs-requires : tie.Need-write-pairs-requires
 write-pairs-requires c κs =
     let at-make-room = c .before .before .before .before .before .before .before in
     let entry = at-make-room .before .before .before .before .before .before in
-    (room-rows (entry .args .room) (entry .args .session) (entry .args .source) (entry .args .a .now) (entry .args .b .now) _ _ _ (entry .pre .0) (at-make-room .make-room .ensures), λ probe. pairs-counted (entry .args .source) (entry .args .item) _ _ _ (at-make-room .make-room .ensures probe) (entry .pre .1 probe), entry .pre .2)
+    (room-rows (entry .args .room) (entry .args .session) (entry .args .source) (entry .args .a .now) (entry .args .b .now) _ _ _ (entry .pre .0) (at-make-room .make-room .ensures), λ x. pairs-counted (entry .args .source) (entry .args .item) _ _ _ (at-make-room .make-room .ensures x) (entry .pre .1 x), entry .pre .2)
 
 store-row-requires : tie.Need-store-row-requires
 store-row-requires c κs =
@@ -33,7 +33,7 @@ returns c =
     let at-write-pairs = at-store-row .before .before .before .before .before in
     let at-make-room = at-write-pairs .before .before .before .before .before .before .before .before in
     let entry = at-make-room .before .before .before .before .before .before in
-    λ probe. joined _ _ _ _ _ _ _ (entry .pre .1 probe) (at-store-row .store-row .ensures probe ∙ ap (store _ _) (at-make-room .make-room .ensures probe)) (at-write-pairs .write-pairs .ensures probe ∙ ap (λ (w : World). putFrom 0 (tellAll (entry .args .source) (λ i. entry .args .item) (λ j. rowsOf w (other (entry .args .source)) j .item) (arrived (entry .args .source) (entry .args .item) w)) (entry .args .out .now)) (at-make-room .make-room .ensures probe))
+    λ x. joined _ _ _ _ _ _ _ (entry .pre .1 x) (at-store-row .store-row .ensures x ∙ ap (store _ _) (at-make-room .make-room .ensures x)) (at-write-pairs .write-pairs .ensures x ∙ ap (λ (w : World). putFrom 0 (tellAll (entry .args .source) (λ i. entry .args .item) (λ j. rowsOf w (other (entry .args .source)) j .item) (arrived (entry .args .source) (entry .args .item) w)) (entry .args .out .now)) (at-make-room .make-room .ensures x))
 
 pub take-row-spec : {M : Type 1} → statement M
 take-row-spec =

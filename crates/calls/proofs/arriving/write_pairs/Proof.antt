@@ -2,28 +2,29 @@
 -- Assumes nothing.
 use borrow.Author.Needs.{needs}
 use mathlib.Core.List.{[]}
+use Rattle.rules.specs.World.{lent}
 use Rattle.calls.proofs.arriving.write_pairs.Statement.{statement}
 use Rattle.calls.proofs.arriving.write_pairs.Tie as tie
 
 write-met-requires : tie.Need-write-met-requires
 write-met-requires c κs =
     let entry = c .before .before .before .before .before .before in
-    (entry .pre .0 .b-long, entry .pre .0 .b-few, rw (c .before .enum-told .given .1) at (entry .pre .1 []), entry .pre .2)
+    (entry .pre .0 .b-long, entry .pre .0 .b-few, rw (c .before .enum-told .given .1) at (entry .pre .1 (lent [] [] [])), entry .pre .2)
 
 write-met-requires-2 : tie.Need-write-met-requires-2
 write-met-requires-2 c κs =
     let entry = c .before .before .before .before .before .before in
-    (entry .pre .0 .a-long, entry .pre .0 .a-few, rw (c .before .enum-told2 .given .1) at (entry .pre .1 []), entry .pre .2)
+    (entry .pre .0 .a-long, entry .pre .0 .a-few, rw (c .before .enum-told2 .given .1) at (entry .pre .1 (lent [] [] [])), entry .pre .2)
 
 returns : tie.Need-returns
 returns c =
     let at-enum-told = c .before .before .before .before in
-    λ probe. rw (at-enum-told .enum-told .given .1) (c .before .before .write-met .ensures)
+    λ x. rw (at-enum-told .enum-told .given .1) (c .before .before .write-met .ensures)
 
 returns-2 : tie.Need-returns-2
 returns-2 c =
     let at-enum-told2 = c .before .before .before .before in
-    λ probe. rw (at-enum-told2 .enum-told2 .given .1) (c .before .before .write-met2 .ensures)
+    λ x. rw (at-enum-told2 .enum-told2 .given .1) (c .before .before .write-met2 .ensures)
 
 pub write-pairs-spec : {M : Type 1} → statement M
 write-pairs-spec =

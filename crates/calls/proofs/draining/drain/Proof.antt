@@ -4,14 +4,15 @@ use borrow.Author.Needs.{needs}
 use mathlib.Core.Path.{sym, _∙_}
 use Rattle.rules.specs.Calls.{effect}
 use Rattle.rules.specs.Refusals.{checks}
-use Rattle.rules.proofs.Settling.{settle-no, settle-good, good-fits}
+use Rattle.calls.proofs.Passing.{drain-fits}
+use Rattle.rules.proofs.Settling.{settle-no, settle-good}
 use Rattle.calls.proofs.draining.drain.Statement.{statement}
 use Rattle.calls.proofs.draining.drain.Tie as tie
 
 write-owed-requires : tie.Need-write-owed-requires
 write-owed-requires c κs =
     let at-room-of = c .before .before .before .before in
-    (good-fits _ _ _ _ _ (sym (c .before .before .before .check-drain .ensures) ∙ c .before .enum-told .given .1), at-room-of .room-of .ensures)
+    drain-fits _ _ _ (sym (c .before .before .before .check-drain .ensures) ∙ c .before .enum-told .given .1) (at-room-of .room-of .ensures)
 
 returns : tie.Need-returns
 unfolding checks

@@ -5,7 +5,7 @@ use native.Mathlib.Omega.{arith}
 use Rattle.stamps.specs.declared.Source.the-variants.{A}
 use Rattle.sheets.specs.declared.pairs.Scope.the-variants.{All}
 use Rattle.sheets.proofs.Laws.{product-few}
-use Rattle.rules.specs.World.{world}
+use Rattle.rules.specs.World.{world, lent}
 use Rattle.calls.proofs.Runs.{fits-ready, drained}
 use Rattle.calls.proofs.draining.write_owed.Statement.{statement}
 use Rattle.calls.proofs.draining.write_owed.Tie as tie
@@ -13,30 +13,30 @@ use Rattle.calls.proofs.draining.write_owed.Tie as tie
 write-from-requires : tie.Need-write-from-requires
 write-from-requires c κs =
     let entry = c .before .before .before .before .before .before .before .before .before .before in
-    (fits-ready A _ All _ _ _ (entry .pre .0), entry .pre .0 .next, omega (arith, entry .pre .1))
+    (fits-ready A _ All _ _ _ (entry .pre .0) (entry .pre .1), entry .pre .2, omega (arith, entry .pre .3))
 
 cast-t : tie.Need-cast-t
 cast-t c =
     let entry = c .before .before .before .before .before .before .before .before .before .before .before .before .before .before in
-    omega (arith, c .before .before .before .write-from .ensures .within, product-few (entry .args .session .a .rows) (entry .args .session .b .rows) (omega (arith, entry .pre .0 .a-few, entry .pre .0 .sizes .limit)) (omega (arith, entry .pre .0 .b-few, entry .pre .0 .sizes .limit)))
+    omega (arith, c .before .before .before .write-from .ensures .within, product-few (entry .args .session .a .rows) (entry .args .session .b .rows) (entry .pre .0 .a-few) (entry .pre .0 .b-few))
 
 cast-pairs : tie.Need-cast-pairs
 cast-pairs c =
     let at-write-from = c .before .before .before .before in
     let entry = at-write-from .before .before .before .before .before .before .before .before .before .before .before in
-    omega (arith, at-write-from .write-from .ensures .few, product-few (entry .args .session .a .rows) (entry .args .session .b .rows) (omega (arith, entry .pre .0 .a-few, entry .pre .0 .sizes .limit)) (omega (arith, entry .pre .0 .b-few, entry .pre .0 .sizes .limit)))
+    omega (arith, at-write-from .write-from .ensures .few, product-few (entry .args .session .a .rows) (entry .args .session .b .rows) (entry .pre .0 .a-few) (entry .pre .0 .b-few))
 
 returns : tie.Need-returns
 returns c =
     let at-write-from = c .before .before .before .before .before in
     let entry = at-write-from .before .before .before .before .before .before .before .before .before .before .before in
-    rw (c .if1 .taken) at (drained (world (entry .args .session) _ _ _) _ _ _ (at-write-from .write-from .result) (entry .pre .1) (at-write-from .write-from .ensures))
+    rw (c .if1 .taken) at (drained (world (entry .args .session) (lent _ _ _)) _ _ _ (at-write-from .write-from .result) (entry .pre .3) (at-write-from .write-from .ensures))
 
 returns-2 : tie.Need-returns-2
 returns-2 c =
     let at-write-from = c .before .before .before .before .before in
     let entry = at-write-from .before .before .before .before .before .before .before .before .before .before .before in
-    rw (c .if1 .left) at (drained (world (entry .args .session) _ _ _) _ _ _ (at-write-from .write-from .result) (entry .pre .1) (at-write-from .write-from .ensures))
+    rw (c .if1 .left) at (drained (world (entry .args .session) (lent _ _ _)) _ _ _ (at-write-from .write-from .result) (entry .pre .3) (at-write-from .write-from .ensures))
 
 pub write-owed-spec : {M : Type 1} → statement M
 write-owed-spec =

@@ -2,7 +2,7 @@
 -- Assumes nothing.
 use borrow.Author.Needs.{needs}
 use Rattle.stamps.specs.declared.Source.the-variants.{A, B}
-use Rattle.rules.specs.World.{world}
+use Rattle.rules.specs.World.{world, withRows}
 use Rattle.calls.proofs.Flushing.{flush-is}
 use Rattle.calls.proofs.evicting.clear.Statement.{statement}
 use Rattle.calls.proofs.evicting.clear.Tie as tie
@@ -12,14 +12,14 @@ returns c =
     let at-flush = c .before .before in
     let at-enum-told = at-flush .before .before .before in
     let entry = at-enum-told .before .before .before .before in
-    rw (at-enum-told .enum-told .given .1) (record { worlds = λ probe. flush-is A _ (world (entry .args .session) _ _ probe) _ _ (at-flush .flush .ensures); count = at-flush .flush .ensures .count })
+    rw (at-enum-told .enum-told .given .1) (record { worlds = λ x. flush-is A _ (world (entry .args .session) (withRows _ _ x)) _ _ (at-flush .flush .ensures); count = at-flush .flush .ensures .count })
 
 returns-2 : tie.Need-returns-2
 returns-2 c =
     let at-flush2 = c .before .before in
     let at-enum-told2 = at-flush2 .before .before .before in
     let entry = at-enum-told2 .before .before .before .before in
-    rw (at-enum-told2 .enum-told2 .given .1) (record { worlds = λ probe. flush-is B _ (world (entry .args .session) _ _ probe) _ _ (at-flush2 .flush2 .ensures); count = at-flush2 .flush2 .ensures .count })
+    rw (at-enum-told2 .enum-told2 .given .1) (record { worlds = λ x. flush-is B _ (world (entry .args .session) (withRows _ _ x)) _ _ (at-flush2 .flush2 .ensures); count = at-flush2 .flush2 .ensures .count })
 
 pub clear-spec : {M : Type 1} → statement M
 clear-spec =

@@ -6,6 +6,7 @@ use Rattle.rules.specs.Calls.{effect}
 use Rattle.rules.specs.Refusals.{checks}
 use Rattle.calls.proofs.Passing.{good-rows}
 use Rattle.calls.proofs.Flushing.{evicted}
+use Rattle.rules.specs.World.{lent}
 use Rattle.rules.proofs.Settling.{settle-no, settle-good}
 use Rattle.calls.proofs.evicting.evict.Statement.{statement}
 use Rattle.calls.proofs.evicting.evict.Tie as tie
@@ -13,7 +14,7 @@ use Rattle.calls.proofs.evicting.evict.Tie as tie
 clear-requires : tie.Need-clear-requires
 clear-requires c κs =
     let at-check-portion = c .before .before .before .before in
-    good-rows _ _ _ _ _ (sym (at-check-portion .check-portion .ensures) ∙ c .before .before .enum-told .given .1)
+    good-rows _ _ _ (sym (at-check-portion .check-portion .ensures) ∙ c .before .before .enum-told .given .1)
 
 returns : tie.Need-returns
 unfolding checks
@@ -25,7 +26,8 @@ returns-2 c =
     let at-clear = c .before .before .before .before .before in
     let at-enum-told = at-clear .before .before .before in
     let at-check-portion = at-enum-told .before .before in
-    λ o. settle-good _ o _ _ (sym (at-check-portion .check-portion .ensures) ∙ at-enum-told .enum-told .given .1) (evicted _ _ _ _ _ _ _ _ _ _ o (at-clear .clear .ensures))
+    let entry = at-check-portion .before .before .before .before in
+    λ o. settle-good _ o _ _ (sym (at-check-portion .check-portion .ensures) ∙ at-enum-told .enum-told .given .1) (evicted _ _ _ _ _ _ _ _ _ (lent (entry .args .a .now) (entry .args .b .now) (entry .args .probe .now)) o (at-clear .clear .ensures))
 
 pub evict-spec : {M : Type 1} → statement M
 evict-spec =

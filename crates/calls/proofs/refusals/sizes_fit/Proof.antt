@@ -6,7 +6,7 @@ use Rattle.calls.proofs.refusals.sizes_fit.Statement.{statement}
 use Rattle.calls.proofs.refusals.sizes_fit.Tie as tie
 
 returns : tie.Need-returns
-returns c = rw (c .before .rows-need .ensures, c .probe-need .ensures) (simp and-assoc)
+returns c = rw (c .before .before .before .before .rows-need .ensures, c .before .before .before .probe-need .ensures) (simp and-assoc)
 
 pub sizes-fit-spec : {M : Type 1} → statement M
 sizes-fit-spec = tie.close (tie.spec (λ c κs. search needs) (λ c κs. search needs) returns)

@@ -40,7 +40,7 @@ returns : tie.Need-returns
 returns c =
     let at-list-of = c .before .before .before .before in
     let entry = at-list-of .before .before .before .before in
-    λ a b. noted (entry .args .source) (entry .args .part) _ (entry .args .session) a b (entry .args .probe .now) (at-list-of .list-of .result) _ (at-list-of .list-of .ensures) (c .before .before .put-entry .ensures)
+    λ x. noted (entry .args .source) (entry .args .part) _ (entry .args .session) x (entry .args .probe .now) (at-list-of .list-of .result) _ (at-list-of .list-of .ensures) (c .before .before .put-entry .ensures)
 
 pub add-entry-spec : {M : Type 1} → statement M
 add-entry-spec =

@@ -13,23 +13,23 @@ use Rattle.calls.proofs.running.find_task.Tie as tie
 latest-dts-requires : tie.Need-latest-dts-requires
 latest-dts-requires c κs =
     let entry = c .before .before .before .before .before .before in
-    (rw (c .before .feed-of .ensures) (own-long (entry .args .source) (entry .args .session) (entry .args .own .now) (entry .args .facing .now) (entry .args .probe .now) (entry .pre .0)), omega (arith, entry .pre .0 .sizes .parts))
+    (rw (c .before .feed-of .ensures) (own-long (entry .args .source) (entry .args .session) (entry .args .own .now) (entry .args .facing .now) (entry .pre .0)), entry .pre .0 .some-parts)
 
 returns : tie.Need-returns
 returns c =
     let entry = c .before .before .before .before .before .before .before .before in
-    task-none (entry .args .source) (entry .args .session) (entry .args .own .now) (entry .args .facing .now) (entry .args .probe .now) (entry .args .part) (rw (c .before .before .before .feed-of .ensures) at (sym (c .before .latest-dts .ensures) ∙ c .if1 .taken))
+    λ x. task-none (entry .args .source) (entry .args .session) (entry .args .own .now) (entry .args .facing .now) (entry .args .probe .now) x (entry .args .part) (rw (c .before .before .before .feed-of .ensures) at (sym (c .before .latest-dts .ensures) ∙ c .if1 .taken))
 
 was-probed-requires : tie.Need-was-probed-requires
 was-probed-requires c κs =
     let entry = c .before .before .before .before .before .before .before .before .before .before in
-    list-fits _ (entry .args .session .counts) (entry .args .probe .now) (entry .args .source) _ _ (entry .pre .0 .sizes .probe-long) (entry .pre .0 .short) (entry .pre .1) (c .list-of .ensures)
+    list-fits _ (entry .args .session .counts) (entry .args .probe .now) (entry .args .source) _ _ (entry .pre .1 .probe-long) (entry .pre .1 .short) (entry .pre .2) (c .list-of .ensures)
 
 returns-2 : tie.Need-returns-2
 returns-2 c =
     let at-list-of = c .before .before in
     let entry = at-list-of .before .before .before .before .before .before .before .before .before .before in
-    task-probed (entry .args .source) (entry .args .session) (entry .args .own .now) (entry .args .facing .now) (entry .args .probe .now) (entry .args .part) (ap (probedAt _) (listed (entry .args .session) (entry .args .probe .now) (entry .args .source) (entry .args .part) (at-list-of .list-of .result) (entry .pre .1) (at-list-of .list-of .ensures) .0) ∙ sym (c .before .was-probed .ensures) ∙ c .if2 .taken)
+    λ x. task-probed (entry .args .source) (entry .args .session) (entry .args .own .now) (entry .args .facing .now) (entry .args .probe .now) x (entry .args .part) (ap (probedAt _) (listed (entry .args .session) (entry .args .probe .now) (entry .args .source) (entry .args .part) (at-list-of .list-of .result) (entry .pre .2) (at-list-of .list-of .ensures) .0) ∙ sym (c .before .was-probed .ensures) ∙ c .if2 .taken)
 
 returns-3 : tie.Need-returns-3
 returns-3 c =
@@ -38,7 +38,7 @@ returns-3 c =
     let at-latest-dts = at-if1 .before in
     let at-feed-of = at-latest-dts .before .before in
     let entry = at-feed-of .before .before .before .before .before in
-    task-crowded (entry .args .source) (entry .args .session) (entry .args .own .now) (entry .args .facing .now) (entry .args .probe .now) (entry .args .part) (λ e. at-if1 .if1 .left (at-latest-dts .latest-dts .ensures ∙ rw (at-feed-of .feed-of .ensures) e)) (ap (probedAt _) (listed (entry .args .session) (entry .args .probe .now) (entry .args .source) (entry .args .part) (at-list-of .list-of .result) (entry .pre .1) (at-list-of .list-of .ensures) .0) ∙ sym (c .before .before .before .was-probed .ensures) ∙ c .before .before .if2 .left) (omega (arith, listed (entry .args .session) (entry .args .probe .now) (entry .args .source) (entry .args .part) (at-list-of .list-of .result) (entry .pre .1) (at-list-of .list-of .ensures) .1, c .if3 .taken))
+    λ x. task-crowded (entry .args .source) (entry .args .session) (entry .args .own .now) (entry .args .facing .now) (entry .args .probe .now) x (entry .args .part) (λ e. at-if1 .if1 .left (at-latest-dts .latest-dts .ensures ∙ rw (at-feed-of .feed-of .ensures) e)) (ap (probedAt _) (listed (entry .args .session) (entry .args .probe .now) (entry .args .source) (entry .args .part) (at-list-of .list-of .result) (entry .pre .2) (at-list-of .list-of .ensures) .0) ∙ sym (c .before .before .before .was-probed .ensures) ∙ c .before .before .if2 .left) (omega (arith, listed (entry .args .session) (entry .args .probe .now) (entry .args .source) (entry .args .part) (at-list-of .list-of .result) (entry .pre .2) (at-list-of .list-of .ensures) .1, c .if3 .taken))
 
 returns-4 : tie.Need-returns-4
 returns-4 c =
@@ -47,7 +47,7 @@ returns-4 c =
     let at-latest-dts = at-if1 .before in
     let at-feed-of = at-latest-dts .before .before in
     let entry = at-feed-of .before .before .before .before .before in
-    ap Upto (at-latest-dts .latest-dts .ensures) ∙ rw (at-feed-of .feed-of .ensures) (task-upto (entry .args .source) (entry .args .session) (entry .args .own .now) (entry .args .facing .now) (entry .args .probe .now) (entry .args .part) (λ e. at-if1 .if1 .left (at-latest-dts .latest-dts .ensures ∙ rw (at-feed-of .feed-of .ensures) e)) (ap (probedAt _) (listed (entry .args .session) (entry .args .probe .now) (entry .args .source) (entry .args .part) (at-list-of .list-of .result) (entry .pre .1) (at-list-of .list-of .ensures) .0) ∙ sym (c .before .before .before .was-probed .ensures) ∙ c .before .before .if2 .left) (omega (arith, listed (entry .args .session) (entry .args .probe .now) (entry .args .source) (entry .args .part) (at-list-of .list-of .result) (entry .pre .1) (at-list-of .list-of .ensures) .1, c .if3 .left)))
+    λ x. ap Upto (at-latest-dts .latest-dts .ensures) ∙ rw (at-feed-of .feed-of .ensures) (task-upto (entry .args .source) (entry .args .session) (entry .args .own .now) (entry .args .facing .now) (entry .args .probe .now) x (entry .args .part) (λ e. at-if1 .if1 .left (at-latest-dts .latest-dts .ensures ∙ rw (at-feed-of .feed-of .ensures) e)) (ap (probedAt _) (listed (entry .args .session) (entry .args .probe .now) (entry .args .source) (entry .args .part) (at-list-of .list-of .result) (entry .pre .2) (at-list-of .list-of .ensures) .0) ∙ sym (c .before .before .before .was-probed .ensures) ∙ c .before .before .if2 .left) (omega (arith, listed (entry .args .session) (entry .args .probe .now) (entry .args .source) (entry .args .part) (at-list-of .list-of .result) (entry .pre .2) (at-list-of .list-of .ensures) .1, c .if3 .left)))
 
 pub find-task-spec : {M : Type 1} → statement M
 find-task-spec =

@@ -2,10 +2,10 @@
 -- Assumes nothing.
 use borrow.Author.Needs.{needs}
 use mathlib.Core.Path.{sym, _∙_}
-use Rattle.rules.proofs.Settling.{good-fits}
-use Rattle.calls.proofs.Runs.{run-refused, run-settled, portion-small}
+use Rattle.calls.proofs.Passing.{portion-fits}
+use Rattle.calls.proofs.Runs.{run-refused, run-settled}
 use Rattle.stamps.specs.declared.Source.the-variants.{A, B}
-use Rattle.rules.specs.World.{world}
+use Rattle.rules.specs.World.{world, lent}
 use Rattle.calls.proofs.running.run.Statement.{statement}
 use Rattle.calls.proofs.running.run.Tie as tie
 
@@ -13,18 +13,18 @@ run-portion-requires : tie.Need-run-portion-requires
 run-portion-requires c κs =
     let at-enum-told = c .before .before .before .before in
     let at-check-portion = at-enum-told .before .before in
-    (good-fits _ _ _ _ _ (sym (at-check-portion .check-portion .ensures) ∙ at-enum-told .enum-told .given .1), portion-small _ _ _ _ _ (sym (at-check-portion .check-portion .ensures) ∙ at-enum-told .enum-told .given .1))
+    portion-fits _ _ _ (sym (at-check-portion .check-portion .ensures) ∙ at-enum-told .enum-told .given .1)
 
 run-portion-requires-2 : tie.Need-run-portion-requires-2
 run-portion-requires-2 c κs =
     let at-enum-told = c .before .before .before .before in
     let at-check-portion = at-enum-told .before .before in
-    (good-fits _ _ _ _ _ (sym (at-check-portion .check-portion .ensures) ∙ at-enum-told .enum-told .given .1), portion-small _ _ _ _ _ (sym (at-check-portion .check-portion .ensures) ∙ at-enum-told .enum-told .given .1))
+    portion-fits _ _ _ (sym (at-check-portion .check-portion .ensures) ∙ at-enum-told .enum-told .given .1)
 
 returns : tie.Need-returns
 returns c =
     let entry = c .before .before .before .before .before .before .before .before in
-    run-refused (world (entry .args .session) (entry .args .a .now) (entry .args .b .now) (entry .args .probe .now)) _ (entry .args .source) _ _ (sym (c .before .before .before .check-portion .ensures) ∙ c .before .why .given .1)
+    run-refused (world (entry .args .session) (lent (entry .args .a .now) (entry .args .b .now) (entry .args .probe .now))) _ (entry .args .source) _ _ (sym (c .before .before .before .check-portion .ensures) ∙ c .before .why .given .1)
 
 returns-2 : tie.Need-returns-2
 returns-2 c =
@@ -33,7 +33,7 @@ returns-2 c =
     let at-enum-told = at-enum-told2 .before .before in
     let at-check-portion = at-enum-told .before .before in
     let entry = at-check-portion .before .before .before .before .before in
-    rw (at-enum-told2 .enum-told2 .given .1) (run-settled (world (entry .args .session) (entry .args .a .now) (entry .args .b .now) (entry .args .probe .now)) (entry .args .out .now) A _ _ (sym (at-check-portion .check-portion .ensures) ∙ at-enum-told .enum-told .given .1) (at-run-portion .run-portion .ensures))
+    rw (at-enum-told2 .enum-told2 .given .1) (run-settled (world (entry .args .session) (lent (entry .args .a .now) (entry .args .b .now) (entry .args .probe .now))) (entry .args .out .now) A _ _ (sym (at-check-portion .check-portion .ensures) ∙ at-enum-told .enum-told .given .1) (at-run-portion .run-portion .ensures (lent (entry .args .a .now) (entry .args .b .now) (entry .args .probe .now))))
 
 returns-3 : tie.Need-returns-3
 returns-3 c =
@@ -42,7 +42,7 @@ returns-3 c =
     let at-enum-told = at-enum-told3 .before .before in
     let at-check-portion = at-enum-told .before .before in
     let entry = at-check-portion .before .before .before .before .before in
-    rw (at-enum-told3 .enum-told3 .given .1) (run-settled (world (entry .args .session) (entry .args .a .now) (entry .args .b .now) (entry .args .probe .now)) (entry .args .out .now) B _ _ (sym (at-check-portion .check-portion .ensures) ∙ at-enum-told .enum-told .given .1) (at-run-portion2 .run-portion2 .ensures))
+    rw (at-enum-told3 .enum-told3 .given .1) (run-settled (world (entry .args .session) (lent (entry .args .a .now) (entry .args .b .now) (entry .args .probe .now))) (entry .args .out .now) B _ _ (sym (at-check-portion .check-portion .ensures) ∙ at-enum-told .enum-told .given .1) (at-run-portion2 .run-portion2 .ensures (lent (entry .args .a .now) (entry .args .b .now) (entry .args .probe .now))))
 
 pub run-spec : {M : Type 1} → statement M
 run-spec =

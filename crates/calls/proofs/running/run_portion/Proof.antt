@@ -1,7 +1,9 @@
 -- `calls::running::run_portion` meets its contract: the task settles it.
 -- Assumes nothing.
 use borrow.Author.Needs.{needs}
+use mathlib.Core.List.{[]}
 use mathlib.Core.Path.{sym, _∙_}
+use Rattle.rules.specs.World.{lent, withProbe}
 use Rattle.calls.specs.Work.{worldFrom}
 use Rattle.calls.proofs.Runs.{run-idle, run-crowded, run-upto, upto-listed}
 use Rattle.calls.proofs.running.run_portion.Statement.{statement}
@@ -11,17 +13,17 @@ run-upto-requires : tie.Need-run-upto-requires
 run-upto-requires c κs =
     let at-find-task = c .before .before .before .before .before in
     let entry = at-find-task .before .before .before .before .before .before in
-    (entry .pre .0, upto-listed (entry .args .source) (entry .args .session) (entry .args .own .now) (entry .args .facing .now) (entry .args .probe .now) (entry .args .part) _ (entry .pre .0) (entry .pre .1) (sym (c .before .before .before .last .given .1) ∙ at-find-task .find-task .ensures))
+    (entry .pre .0, entry .pre .1, upto-listed (entry .args .source) (entry .args .session) (entry .args .own .now) (entry .args .facing .now) (entry .args .probe .now) (lent [] [] []) (entry .args .part) _ (entry .pre .0) (entry .pre .1) (entry .pre .2) (sym (c .before .before .before .last .given .1) ∙ at-find-task .find-task .ensures (lent [] [] [])))
 
 returns : tie.Need-returns
 returns c =
     let entry = c .before .before .before .before .before .before .before .before in
-    run-idle (worldFrom (entry .args .source) (entry .args .session) (entry .args .own .now) (entry .args .facing .now) (entry .args .probe .now)) (entry .args .source) (entry .args .part) _ (sym (c .enum-told .given .1) ∙ c .before .before .find-task .ensures)
+    λ x. run-idle (worldFrom (entry .args .source) (entry .args .session) (entry .args .own .now) (entry .args .facing .now) (withProbe (entry .args .probe .now) x)) (entry .args .source) (entry .args .part) _ (sym (c .enum-told .given .1) ∙ c .before .before .find-task .ensures x)
 
 returns-2 : tie.Need-returns-2
 returns-2 c =
     let entry = c .before .before .before .before .before .before .before .before in
-    run-crowded (worldFrom (entry .args .source) (entry .args .session) (entry .args .own .now) (entry .args .facing .now) (entry .args .probe .now)) (entry .args .source) (entry .args .part) _ (sym (c .enum-told2 .given .1) ∙ c .before .before .find-task .ensures)
+    λ x. run-crowded (worldFrom (entry .args .source) (entry .args .session) (entry .args .own .now) (entry .args .facing .now) (withProbe (entry .args .probe .now) x)) (entry .args .source) (entry .args .part) _ (sym (c .enum-told2 .given .1) ∙ c .before .before .find-task .ensures x)
 
 returns-3 : tie.Need-returns-3
 returns-3 c =
@@ -29,7 +31,7 @@ returns-3 c =
     let at-last = at-run-upto .before .before .before .before in
     let at-find-task = at-last .before .before in
     let entry = at-find-task .before .before .before .before .before .before in
-    run-upto (worldFrom (entry .args .source) (entry .args .session) (entry .args .own .now) (entry .args .facing .now) (entry .args .probe .now)) (entry .args .source) (entry .args .part) (entry .args .out .now) _ (sym (at-last .last .given .1) ∙ at-find-task .find-task .ensures) _ (at-run-upto .run-upto .ensures)
+    λ x. run-upto (worldFrom (entry .args .source) (entry .args .session) (entry .args .own .now) (entry .args .facing .now) (withProbe (entry .args .probe .now) x)) (entry .args .source) (entry .args .part) (entry .args .out .now) _ (sym (at-last .last .given .1) ∙ at-find-task .find-task .ensures x) _ (at-run-upto .run-upto .ensures x)
 
 pub run-portion-spec : {M : Type 1} → statement M
 run-portion-spec =

@@ -1,8 +1,11 @@
 -- `calls::running::run_upto` meets its contract: the pairs are counted, then written, and the entry added; or they do not fit.
 -- Assumes nothing.
 use borrow.Author.Needs.{needs}
+use mathlib.Core.List.{[]}
 use native.Mathlib.Omega.{arith}
 use Rattle.sheets.specs.declared.pairs.Scope.the-variants.{Portion}
+use Rattle.rules.specs.World.{lent}
+use Rattle.calls.specs.Work.{worldFrom}
 use Rattle.calls.proofs.Runs.{fits-ready, run-few, run-short, run-done}
 use Rattle.calls.proofs.running.run_upto.Statement.{statement}
 use Rattle.calls.proofs.running.run_upto.Tie as tie
@@ -13,7 +16,7 @@ count-due-requires c κs =
     let at-other-source = at-feed-of2 .before in
     let at-feed-of = at-other-source .before in
     let entry = at-feed-of .before .before .before .before .before .before in
-    rw (at-feed-of .feed-of .ensures, at-feed-of2 .feed-of2 .ensures, at-other-source .other-source .ensures) (fits-ready (entry .args .source) (entry .args .session) (Portion (entry .args .part)) _ _ _ (entry .pre .0))
+    rw (at-feed-of .feed-of .ensures, at-feed-of2 .feed-of2 .ensures, at-other-source .other-source .ensures) (fits-ready (entry .args .source) (entry .args .session) (Portion (entry .args .part)) _ _ _ (entry .pre .0) (entry .pre .1))
 
 cast-t23 : tie.Need-cast-t23
 cast-t23 c =
@@ -22,7 +25,7 @@ cast-t23 c =
     let at-other-source = at-feed-of2 .before in
     let at-feed-of = at-other-source .before in
     let entry = at-feed-of .before .before .before .before .before .before in
-    omega (arith, run-few (entry .args .source) (entry .args .session) (entry .args .own .now) (entry .args .facing .now) (entry .args .probe .now) (entry .args .part) (at-count-due .count-due .result) (rw (at-feed-of .feed-of .ensures, at-feed-of2 .feed-of2 .ensures, at-other-source .other-source .ensures) at (at-count-due .count-due .ensures)) (entry .pre .0))
+    omega (arith, run-few (entry .args .source) (entry .args .session) (entry .args .own .now) (entry .args .facing .now) (entry .args .probe .now) (lent [] [] []) (entry .args .part) (at-count-due .count-due .result) (rw (at-feed-of .feed-of .ensures, at-feed-of2 .feed-of2 .ensures, at-other-source .other-source .ensures) at (at-count-due .count-due .ensures)) (entry .pre .0) (entry .pre .1))
 
 returns : tie.Need-returns
 returns c =
@@ -31,7 +34,7 @@ returns c =
     let at-other-source = at-feed-of2 .before in
     let at-feed-of = at-other-source .before in
     let entry = at-feed-of .before .before .before .before .before .before in
-    run-short (entry .args .source) (entry .args .session) (entry .args .own .now) (entry .args .facing .now) (entry .args .probe .now) (entry .args .part) (at-count-due .count-due .result) (rw (at-feed-of .feed-of .ensures, at-feed-of2 .feed-of2 .ensures, at-other-source .other-source .ensures) at (at-count-due .count-due .ensures)) _ _ (rw (← c .before .room-of .ensures) (c .if1 .taken))
+    λ x. run-short (entry .args .source) (entry .args .session) (entry .args .own .now) (entry .args .facing .now) (entry .args .probe .now) x (entry .args .part) (at-count-due .count-due .result) (rw (at-feed-of .feed-of .ensures, at-feed-of2 .feed-of2 .ensures, at-other-source .other-source .ensures) at (at-count-due .count-due .ensures)) _ _ (rw (← c .before .room-of .ensures) (c .if1 .taken))
 
 write-from-requires : tie.Need-write-from-requires
 write-from-requires c κs =
@@ -40,12 +43,12 @@ write-from-requires c κs =
     let at-other-source = at-feed-of2 .before in
     let at-feed-of = at-other-source .before in
     let entry = at-feed-of .before .before .before .before .before .before in
-    (rw (at-feed-of .feed-of .ensures, at-feed-of2 .feed-of2 .ensures, at-other-source .other-source .ensures) (fits-ready (entry .args .source) (entry .args .session) (Portion (entry .args .part)) _ _ _ (entry .pre .0)), search needs, omega (arith, at-room-of .room-of .ensures, c .before .before .before .if1 .left))
+    (rw (at-feed-of .feed-of .ensures, at-feed-of2 .feed-of2 .ensures, at-other-source .other-source .ensures) (fits-ready (entry .args .source) (entry .args .session) (Portion (entry .args .part)) _ _ _ (entry .pre .0) (entry .pre .1)), search needs, omega (arith, at-room-of .room-of .ensures, c .before .before .before .if1 .left))
 
 add-entry-requires : tie.Need-add-entry-requires
 add-entry-requires c κs =
     let entry = c .before .before .before .before .before .before .before .before .before .before .before .before .before .before .before .before .before .before .before .before .before .before in
-    entry .pre .1
+    entry .pre .2
 
 cast-t34 : tie.Need-cast-t34
 cast-t34 c =
@@ -54,7 +57,7 @@ cast-t34 c =
     let at-other-source = at-feed-of2 .before in
     let at-feed-of = at-other-source .before in
     let entry = at-feed-of .before .before .before .before .before .before in
-    omega (arith, run-few (entry .args .source) (entry .args .session) (entry .args .own .now) (entry .args .facing .now) (entry .args .probe .now) (entry .args .part) (at-count-due .count-due .result) (rw (at-feed-of .feed-of .ensures, at-feed-of2 .feed-of2 .ensures, at-other-source .other-source .ensures) at (at-count-due .count-due .ensures)) (entry .pre .0))
+    omega (arith, run-few (entry .args .source) (entry .args .session) (entry .args .own .now) (entry .args .facing .now) (entry .args .probe .now) (lent [] [] []) (entry .args .part) (at-count-due .count-due .result) (rw (at-feed-of .feed-of .ensures, at-feed-of2 .feed-of2 .ensures, at-other-source .other-source .ensures) at (at-count-due .count-due .ensures)) (entry .pre .0) (entry .pre .1))
 
 returns-2 : tie.Need-returns-2
 returns-2 c =
@@ -66,7 +69,7 @@ returns-2 c =
     let at-other-source = at-feed-of2 .before in
     let at-feed-of = at-other-source .before in
     let entry = at-feed-of .before .before .before .before .before .before in
-    run-done (entry .args .source) (entry .args .session) (entry .args .own .now) (entry .args .facing .now) (entry .args .probe .now) (entry .args .part) (at-count-due .count-due .result) (rw (at-feed-of .feed-of .ensures, at-feed-of2 .feed-of2 .ensures, at-other-source .other-source .ensures) at (at-count-due .count-due .ensures)) _ _ _ _ (at-write-from .write-from .result) (rw (← at-room-of .room-of .ensures) (at-if1 .if1 .left)) (rw (at-feed-of .feed-of .ensures, at-feed-of2 .feed-of2 .ensures, at-other-source .other-source .ensures) at (at-write-from .write-from .ensures)) (c .before .before .add-entry .ensures _ _)
+    λ x. run-done (entry .args .source) (entry .args .session) (entry .args .own .now) (entry .args .facing .now) (entry .args .probe .now) x (entry .args .part) (at-count-due .count-due .result) (rw (at-feed-of .feed-of .ensures, at-feed-of2 .feed-of2 .ensures, at-other-source .other-source .ensures) at (at-count-due .count-due .ensures)) _ _ _ _ (at-write-from .write-from .result) (rw (← at-room-of .room-of .ensures) (at-if1 .if1 .left)) (rw (at-feed-of .feed-of .ensures, at-feed-of2 .feed-of2 .ensures, at-other-source .other-source .ensures) at (at-write-from .write-from .ensures)) (c .before .before .add-entry .ensures (worldFrom (entry .args .source) (entry .args .session) (entry .args .own .now) (entry .args .facing .now) x .sheets))
 
 pub run-upto-spec : {M : Type 1} → statement M
 run-upto-spec =

@@ -14,7 +14,7 @@ put-reply-requires c κs =
 returns : tie.Need-returns
 returns c =
     let at-respond = c .before .before .before .before .before .before .before .before .before .before .before in
-    says-turn _ _ _ _ _ _ _ _ _ _ _ _ _ _ (at-respond .respond .ensures .0) (c .before .put-reply .ensures .0) (omega (arith, c .before .put-reply .ensures .1, at-respond .respond .ensures .1))
+    says-turn _ _ _ _ _ _ _ _ _ _ (at-respond .respond .ensures .0) (c .before .put-reply .ensures .0) (omega (arith, c .before .put-reply .ensures .1, at-respond .respond .ensures .1))
 
 pub answer-line-spec : {M : Type 1} → statement M
 answer-line-spec =

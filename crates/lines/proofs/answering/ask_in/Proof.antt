@@ -17,7 +17,7 @@ unfolding asksIn
 returns c =
     let at-ask = c .before .before .before .before .before .before .before .before in
     let entry = at-ask .before .before .before .before .before .before .before .before .before in
-    ap (λ (x : Turn). turned (x .told) (x .a) (x .b) (x .probe) (x .out ++ drop (entry .args .words) (entry .args .out .now))) (at-ask .ask .ensures)
+    ap (λ (x : Turn). turned (x .told) (x .sheets) (x .out ++ drop (entry .args .words) (entry .args .out .now))) (at-ask .ask .ensures)
 
 pub ask-in-spec : {M : Type 1} → statement M
 ask-in-spec =

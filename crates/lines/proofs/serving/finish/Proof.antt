@@ -7,7 +7,7 @@ use Rattle.lines.proofs.serving.finish.Statement.{statement}
 use Rattle.lines.proofs.serving.finish.Tie as tie
 
 returns : tie.Need-returns
-returns c = rw (eq-eqb _ _ (c .if1 .taken)) (says-nothing _ _ _ _ _ _)
+returns c = rw (eq-eqb _ _ (c .if1 .taken)) (says-nothing _ _ _ _)
 
 returns-2 : tie.Need-returns-2
 returns-2 c =
