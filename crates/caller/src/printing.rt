@@ -1,6 +1,6 @@
 // What is printed: an answer, a session record and words, through a buffer that is written out when it is full.
 use libc::STDOUT_FILENO;
-use lines::printing::code_of;
+use replies::code_of;
 use rules::Answer;
 use rules::Session;
 use rules::Why;

@@ -19,13 +19,14 @@ use Rattle.rules.specs.declared.Why.the-variants.{NoStart}
 use Rattle.rules.proofs.Laws.{written-fits, opens-none}
 use Rattle.lines.specs.declared.answering.Outcome.{Outcome}
 use Rattle.lines.specs.declared.answering.State.{State}
-use Rattle.lines.specs.declared.gathering.Gathered.{Gathered}
+use Rattle.text.specs.declared.gathering.Gathered.{Gathered}
 use Rattle.lines.specs.Answering.{Turn, turned, refuses, goesOn, begins, went, asks, asksIn, turnOf, replied, answered, silent, Says}
-use Rattle.lines.specs.Gathering.{Held}
-use Rattle.lines.specs.Printing.{Put, replyMost, replyText}
-use Rattle.lines.specs.Reading.{roomMost, readLine}
+use Rattle.text.specs.Gathering.{Held}
+use Rattle.text.specs.Putting.{Put}
+use Rattle.replies.specs.Printing.{replyMost, replyText}
+use Rattle.reading.specs.Reading.{roomMost, readLine}
 use Rattle.lines.specs.Serving.{Serves}
-use Rattle.lines.proofs.PrintTurns.{put-none}
+use Rattle.text.proofs.PutTurns.{put-none}
 
 -- ---- what an answer lists
 

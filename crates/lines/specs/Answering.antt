@@ -17,10 +17,11 @@ use Rattle.rules.specs.declared.Why.{Why}
 use Rattle.rules.specs.declared.Why.the-variants.{BadLine, NoStart}
 use Rattle.lines.specs.declared.answering.Outcome.{Outcome}
 use Rattle.lines.specs.declared.answering.State.{State}
-use Rattle.lines.specs.declared.reading.Line.{Line}
-use Rattle.lines.specs.declared.reading.Line.the-variants as line
-use Rattle.lines.specs.Printing.{Put, replyMost, replyText}
-use Rattle.lines.specs.Reading.{roomMost, readLine}
+use Rattle.reading.specs.declared.Line.{Line}
+use Rattle.reading.specs.declared.Line.the-variants as line
+use Rattle.text.specs.Putting.{Put}
+use Rattle.replies.specs.Printing.{replyMost, replyText}
+use Rattle.reading.specs.Reading.{roomMost, readLine}
 
 -- ---- the state
 

@@ -9,7 +9,7 @@ use Rattle.rules.specs.World.{Sheets}
 use Rattle.lines.specs.declared.answering.State.{State}
 use Rattle.lines.specs.declared.serving.Served.{Served}
 use Rattle.lines.specs.Answering.{Left, left, answered, silent, Says}
-use Rattle.lines.specs.Gathering.{Held}
+use Rattle.text.specs.Gathering.{Held}
 
 -- "A line ends at LF": then it is answered
 abbrev pub served : Held → State → Sheets → List ℕ → Left

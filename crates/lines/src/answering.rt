@@ -1,11 +1,11 @@
 // One line answered: what it asks for is done on the lent sheets, and its reply is put into a lent buffer.
-use crate::printing::put_reply;
-use crate::reading::Line;
-use crate::reading::ROOM;
-use crate::reading::read_line;
 use calls::opening::new_session;
 use calls::opening::open;
 use calls::performing::perform;
+use reading::Line;
+use reading::ROOM;
+use reading::read_line;
+use replies::put_reply;
 use rules::Answer;
 use rules::Call;
 use rules::Reply;
@@ -19,7 +19,7 @@ ghost use Prim.Native.Nat.{_≤_};
 ghost use lib.ListN.{length};
 ghost use Rattle.rules.specs.World.{lent};
 ghost use Rattle.rules.specs.Answers.{writtenOf, refused};
-ghost use Rattle.lines.specs.Reading.{roomMost, readLine};
+ghost use Rattle.reading.specs.Reading.{roomMost, readLine};
 ghost use Rattle.lines.specs.Answering.{unstarted, goesOn, begins, turned, asks, asksIn, turnOf, answered, Says};
 
 // The words of the output.

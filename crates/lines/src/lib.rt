@@ -1,9 +1,3 @@
-// The text of the session program: what a line says, and what is printed.
+// The session program's lines: each answered, wherever the input is cut.
 pub mod answering;
-pub mod fields;
-pub mod gathering;
-pub mod numbers;
-pub mod printing;
-pub mod reading;
 pub mod serving;
-pub mod words;

@@ -4,13 +4,14 @@ use crate::answering::OUTPUT;
 use crate::answering::REPLY;
 use crate::answering::State;
 use crate::answering::answer_line;
-use crate::gathering::BUFFER;
-use crate::gathering::take_bytes;
+use reading::BUFFER;
+use text::gathering::take_bytes;
 ghost use Prim.Native.Nat.{_<_};
 ghost use lib.ListN.{length, take, drop};
 ghost use Rattle.rules.specs.World.{lent};
 ghost use Rattle.lines.specs.Answering.{answered, Says};
-ghost use Rattle.lines.specs.Gathering.{gather};
+ghost use Rattle.text.specs.Gathering.{gather};
+ghost use Rattle.reading.specs.Reading.{lineMost};
 ghost use Rattle.lines.specs.Serving.{finished, Serves};
 
 // The state, how many bytes of the next line there are, where the next byte of the input is, and the bytes of the reply.
@@ -53,7 +54,7 @@ pub fn serve(
     out: &mut [u32; OUTPUT],
     reply: &mut [u8; REPLY],
 ) -> Served
-    ensures { λ r. ⌜ Serves (gather (now (line .entry)) have (drop from (now (input .entry))) from) state (lent (now (a .entry)) (now (b .entry)) (now (probe .entry))) (now (out .entry)) (now (reply .entry)) r (now (line .exit)) (lent (now (a .exit)) (now (b .exit)) (now (probe .exit))) (now (out .exit)) (now (reply .exit)) × (from < length (now (input .entry)) → from < r .next) ⌝ }
+    ensures { λ r. ⌜ Serves (gather lineMost (now (line .entry)) have (drop from (now (input .entry))) from) state (lent (now (a .entry)) (now (b .entry)) (now (probe .entry))) (now (out .entry)) (now (reply .entry)) r (now (line .exit)) (lent (now (a .exit)) (now (b .exit)) (now (probe .exit))) (now (out .exit)) (now (reply .exit)) × (from < length (now (input .entry)) → from < r .next) ⌝ }
 {
     let taken = take_bytes(line, have, input, from);
     if !taken.ended {

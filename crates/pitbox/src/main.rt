@@ -6,12 +6,12 @@ use lines::answering::OUTPUT;
 use lines::answering::REPLY;
 use lines::answering::State;
 use lines::answering::new_state;
-use lines::gathering::BUFFER;
-use lines::printing::put_text;
 use lines::serving::finish;
 use lines::serving::serve;
+use reading::BUFFER;
 use sheets::layout::LIST;
 use sheets::layout::ROW;
+use text::putting::put_text;
 ghost use Prim.Native.Nat.{_≤_};
 ghost use lib.ListN.{length};
 

@@ -1,9 +1,8 @@
 -- `lines::answering::ask` meets its contract: before any START it is refused, after that it is the call.
 -- Assumes nothing.
 use borrow.Author.Needs.{needs}
-use mathlib.Core.Path.{ap}
 use borrow.Author.Tests.{not-true, not-false}
-use Rattle.lines.specs.Answering.{went, asks}
+use Rattle.lines.specs.Answering.{asks}
 use Rattle.lines.proofs.answering.ask.Statement.{statement}
 use Rattle.lines.proofs.answering.ask.Tie as tie
 
@@ -19,7 +18,7 @@ returns-2 c =
     let at-perform = c .before .before .before .before .before .before .before .before .before in
     let at-if1 = at-perform .before .before .before .before .before .before in
     let entry = at-if1 .before .before .before .before .before in
-    rw (not-false (entry .args .state .started) (at-if1 .if1 .left), c .go-on .ensures) (ap went (at-perform .perform .ensures))
+    rw (not-false (entry .args .state .started) (at-if1 .if1 .left), c .go-on .ensures, ← at-perform .perform .ensures)
 
 pub ask-spec : {M : Type 1} → statement M
 ask-spec =

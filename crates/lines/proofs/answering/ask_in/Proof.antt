@@ -1,11 +1,9 @@
 -- `lines::answering::ask_in` meets its contract: the call is lent the first words of the output, and those behind them stay.
 -- Assumes nothing.
 use borrow.Author.Needs.{needs}
-use mathlib.Core.Path.{sym, ap}
-use mathlib.Core.List.{_++_}
-use lib.ListN.{drop}
+use mathlib.Core.Path.{sym}
 use lib.Seq.{length-take-le}
-use Rattle.lines.specs.Answering.{Turn, turned, asksIn}
+use Rattle.lines.specs.Answering.{asksIn}
 use Rattle.lines.proofs.answering.ask_in.Statement.{statement}
 use Rattle.lines.proofs.answering.ask_in.Tie as tie
 
@@ -16,8 +14,7 @@ returns : tie.Need-returns
 unfolding asksIn
 returns c =
     let at-ask = c .before .before .before .before .before .before .before .before in
-    let entry = at-ask .before .before .before .before .before .before .before .before .before in
-    ap (λ (x : Turn). turned (x .told) (x .sheets) (x .out ++ drop (entry .args .words) (entry .args .out .now))) (at-ask .ask .ensures)
+    rw (← at-ask .ask .ensures)
 
 pub ask-in-spec : {M : Type 1} → statement M
 ask-in-spec =

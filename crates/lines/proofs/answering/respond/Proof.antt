@@ -3,7 +3,7 @@
 use borrow.Author.Needs.{needs}
 use native.Mathlib.Omega.{arith}
 use Rattle.lines.proofs.AnswerTurns.{begun-fits, asked-fits, asked-in-fits}
-use Rattle.lines.proofs.Laws.{read-fits}
+use Rattle.reading.proofs.Laws.{read-fits}
 use Rattle.lines.proofs.answering.respond.Statement.{statement}
 use Rattle.lines.proofs.answering.respond.Tie as tie
 

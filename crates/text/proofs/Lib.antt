@@ -1,0 +1,6 @@
+mod FieldTurns
+mod GatherTurns
+pub mod Laws
+pub mod PutTurns
+pub mod Tested
+mod WordTurns

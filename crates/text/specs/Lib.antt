@@ -1,0 +1,5 @@
+pub mod Comparing
+pub mod Fields
+pub mod Gathering
+pub mod Numbers
+pub mod Putting
