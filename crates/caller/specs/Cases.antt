@@ -1,6 +1,14 @@
--- A case of the call program.
+-- Sizes of the call program.
 use Prim.Native.Nat.{ℕ}
 
--- how many numbers stand before the words of its sheets
+-- how many numbers of a case stand before the words of its sheets
 abbrev pub caseHead : ℕ
 caseHead = 52
+
+-- the most words of a sheet
+abbrev pub sheetMost : ℕ
+sheetMost = 12288
+
+-- the numbers that are printed at a time
+abbrev pub pieceMost : ℕ
+pieceMost = 256

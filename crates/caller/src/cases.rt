@@ -1,11 +1,9 @@
 // A case: what its numbers ask for, and the answer to it. In their order the numbers are the kind of the call and its four
 // arguments; the record, as P, M, N, clock, rows of A and of B, closed A and B, 32 entry counts, position, lone positions
 // of A and B; the lengths of the sheets A, B, probe and output; and then the words of these sheets.
-use crate::printing::TEXT;
-use crate::printing::put_answer;
-use crate::printing::put_session;
-use crate::printing::put_sheet;
-use crate::printing::put_text;
+use crate::printing::print_bad;
+use crate::printing::print_line;
+use crate::printing::print_reply;
 use calls::opening::open;
 use calls::performing::perform;
 use rules::Call;
@@ -15,9 +13,10 @@ use rules::Reply;
 use rules::Session;
 use stamps::Message;
 use stamps::Source;
+ghost use mathlib.Core.Path.{_≡_};
 ghost use Prim.Native.Nat.{_+_, _≤_};
 ghost use lib.ListN.{length};
-ghost use Rattle.caller.specs.Cases.{caseHead};
+ghost use Rattle.caller.specs.Cases.{caseHead, sheetMost};
 
 // Places among the numbers: the record and its parts, the sizes of the sheets, and the sheets themselves.
 const RECORD: usize = 5;
@@ -36,186 +35,174 @@ const SIZES: usize = LONE + 2;
 
 const SHEETS: usize = SIZES + 4;
 
-pub const ROW_WORDS: usize = 12288;
+// The most words of a sheet, and of the smaller ones.
+const SHEET: usize = 12288;
 
-pub const PROBE_WORDS: usize = 2048;
+const PROBE_WORDS: usize = 2048;
 
-pub const OUTPUT_WORDS: usize = 1536;
+const OUTPUT_WORDS: usize = 1536;
 
 // The most numbers of a case.
-pub const LINE_WORDS: usize = SHEETS + ROW_WORDS + ROW_WORDS + PROBE_WORDS + OUTPUT_WORDS;
+pub const LINE_WORDS: usize = SHEETS + SHEET + SHEET + PROBE_WORDS + OUTPUT_WORDS;
 
-// What a case asks for.
-enum Asked {
-    Open(u32, u32, u32),
-    Perform(Call),
-    Nothing,
+// ---- the numbers before the sheets
+
+fn head_of(words: &[u32]) -> [u32; SHEETS]
+    requires { ⌜ caseHead ≤ length (now words) ⌝ }
+{
+    let mut head = [0; SHEETS];
+    let mut i = 0;
+    while i < SHEETS {
+        head[i] = words[i];
+        i += 1;
+    }
+    head
 }
 
-// A call that names its source, with the other arguments.
-fn sourced(kind: u32, source: Source, second: u32, third: u32, fourth: u32) -> Asked {
+// Whether the kind is one, with a source where it has one, and the flags are flags.
+fn is_good(head: [u32; SHEETS]) -> bool {
+    let kind = head[0];
+    let sourceless = (kind == 0) | (kind == 5);
+    let sourced = (kind <= 6) & (head[1] <= 1);
+    (sourceless | sourced) & (head[CLOSED] <= 1) & (head[CLOSED + 1] <= 1)
+}
+
+fn source_of(word: u32) -> Source {
+    if word == 0 {
+        return Source::A;
+    }
+    Source::B
+}
+
+// The call of a kind other than 0, which is an opening.
+fn call_of(head: [u32; SHEETS]) -> Call {
+    let kind = head[0];
+    let source = source_of(head[1]);
+    let second = head[2];
     match kind {
-        1 => Asked::Perform(Call::Arrive(
+        1 => Call::Arrive(
             source,
             Message {
                 heat: second,
-                car: third,
-                lap: fourth,
+                car: head[3],
+                lap: head[4],
             },
-        )),
-        2 => Asked::Perform(Call::Evict(source, second)),
-        3 => Asked::Perform(Call::Run(source, second)),
-        4 => Asked::Perform(Call::Close(source)),
-        6 => Asked::Perform(Call::Lone(source)),
-        _ => Asked::Nothing,
+        ),
+        2 => Call::Evict(source, second),
+        3 => Call::Run(source, second),
+        4 => Call::Close(source),
+        5 => Call::Drain,
+        _ => Call::Lone(source),
     }
 }
 
-// The call of a kind with its arguments; the source is the first of them.
-fn asked_of(kind: u32, first: u32, second: u32, third: u32, fourth: u32) -> Asked {
-    if kind == 0 {
-        return Asked::Open(first, second, third);
-    }
-    if kind == 5 {
-        return Asked::Perform(Call::Drain);
-    }
-    match first {
-        0 => sourced(kind, Source::A, second, third, fourth),
-        1 => sourced(kind, Source::B, second, third, fourth),
-        _ => Asked::Nothing,
-    }
-}
-
-fn counts_of(words: &[u32]) -> [u32; 32]
-    requires { ⌜ caseHead ≤ length (now words) ⌝ }
-{
+fn counts_of(head: [u32; SHEETS]) -> [u32; 32] {
     let mut counts = [0; 32];
     let mut i = 0;
     while i < 32 {
-        counts[i] = words[COUNTS + i];
+        counts[i] = head[COUNTS + i];
         i += 1;
     }
     counts
 }
 
-fn session_of(words: &[u32]) -> Session
-    requires { ⌜ caseHead ≤ length (now words) ⌝ }
-{
+fn session_of(head: [u32; SHEETS]) -> Session {
     let a = Feed {
-        rows: words[ROWS],
-        closed: words[CLOSED] == 1,
+        rows: head[ROWS],
+        closed: head[CLOSED] == 1,
     };
     let b = Feed {
-        rows: words[ROWS + 1],
-        closed: words[CLOSED + 1] == 1,
+        rows: head[ROWS + 1],
+        closed: head[CLOSED + 1] == 1,
     };
-    let counts = counts_of(words);
+    let counts = counts_of(head);
     let lone = Places {
-        a: words[LONE],
-        b: words[LONE + 1],
+        a: head[LONE],
+        b: head[LONE + 1],
     };
     Session {
-        parts: words[RECORD],
-        slots: words[RECORD + 1],
-        limit: words[RECORD + 2],
-        clock: words[RECORD + 3],
+        parts: head[RECORD],
+        slots: head[RECORD + 1],
+        limit: head[RECORD + 2],
+        clock: head[RECORD + 3],
         a,
         b,
         counts,
-        next: words[POSITION],
+        next: head[POSITION],
         lone,
     }
 }
 
-fn put_bad(text: &mut [u8; TEXT], used: usize) -> usize {
-    put_text(text, used, b"BAD\n")
-}
+// ---- the sheets
 
-fn put_reply(
-    text: &mut [u8; TEXT],
-    used: usize,
-    reply: Reply,
-    a: &[u32],
-    b: &[u32],
-    probe: &[u32],
-    out: &[u32],
-) -> usize {
-    let answer = reply.answer;
-    let session = reply.session;
-    let answered = put_answer(text, used, answer);
-    let recorded = put_session(text, answered, session);
-    let a_shown = put_sheet(text, recorded, b"A", a);
-    let b_shown = put_sheet(text, a_shown, b"B", b);
-    let probe_shown = put_sheet(text, b_shown, b"PROBE", probe);
-    put_sheet(text, probe_shown, b"OUT", out)
-}
-
-// Performs the call that the numbers before the sheets describe.
-fn answer_call(
-    words: &[u32],
+// The call that the numbers before the sheets describe.
+fn perform_case(
+    head: [u32; SHEETS],
     a: &mut [u32],
     b: &mut [u32],
     probe: &mut [u32],
     out: &mut [u32],
-    text: &mut [u8; TEXT],
-    used: usize,
-) -> usize
-    requires { ⌜ caseHead ≤ length (now words) ⌝ }
-{
-    if 1 < words[CLOSED] {
-        return put_bad(text, used);
+) -> Reply {
+    if head[0] == 0 {
+        return open(head[1], head[2], head[3], a, b, probe);
     }
-    if 1 < words[CLOSED + 1] {
-        return put_bad(text, used);
-    }
-    match asked_of(words[0], words[1], words[2], words[3], words[4]) {
-        Asked::Open(parts, slots, limit) => {
-            let reply = open(parts, slots, limit, a, b, probe);
-            put_reply(text, used, reply, a, b, probe, out)
-        }
-        Asked::Perform(call) => {
-            let session = session_of(words);
-            let reply = perform(session, call, a, b, probe, out);
-            put_reply(text, used, reply, a, b, probe, out)
-        }
-        Asked::Nothing => put_bad(text, used),
-    }
+    perform(session_of(head), call_of(head), a, b, probe, out)
 }
 
-// Fills the sheet with the numbers from a place on.
-fn fill(sheet: &mut [u32], words: &[u32], from: usize)
-    requires { ⌜ from + length (now sheet) ≤ length (now words) ⌝ }
+// Performs the call and prints what it leaves.
+fn answer_call(
+    head: [u32; SHEETS],
+    a: &mut [u32],
+    b: &mut [u32],
+    probe: &mut [u32],
+    out: &mut [u32],
+) {
+    let reply = perform_case(head, a, b, probe, out);
+    print_reply(reply);
+    print_line(b"A", a);
+    print_line(b"B", b);
+    print_line(b"PROBE", probe);
+    print_line(b"OUT", out);
+}
+
+// A sheet with the numbers from a place on.
+fn sheet_of(words: &[u32], from: usize, size: usize) -> [u32; SHEET]
+    requires { ⌜ (from + size ≤ length (now words)) × (size ≤ sheetMost) ⌝ }
 {
+    let mut sheet = [0; SHEET];
     let mut i = 0;
-    while i < sheet.len() {
+    while i < size {
         sheet[i] = words[from + i];
         i += 1;
     }
+    sheet
 }
 
-// Answers a case whose sheets have their sizes and get their words here, if no number is missing or left over.
+// Answers a case whose sheets have these sizes.
 fn answer_sheets(
+    head: [u32; SHEETS],
     words: &[u32],
-    a: &mut [u32],
-    b: &mut [u32],
-    probe: &mut [u32],
-    out: &mut [u32],
-    text: &mut [u8; TEXT],
-    used: usize,
-) -> usize
-    requires { ⌜ caseHead ≤ length (now words) ⌝ }
+    first: usize,
+    second: usize,
+    lists: usize,
+    room: usize,
+)
+    requires { ⌜ (caseHead + first + second + lists + room ≡ length (now words)) × (first ≤ sheetMost) × (second ≤ sheetMost) × (lists ≤ sheetMost) × (room ≤ sheetMost) ⌝ }
 {
-    let a_end = SHEETS + a.len();
-    let b_end = a_end + b.len();
-    let probe_end = b_end + probe.len();
-    if words.len() != probe_end + out.len() {
-        return put_bad(text, used);
-    }
-    fill(a, words, SHEETS);
-    fill(b, words, a_end);
-    fill(probe, words, b_end);
-    fill(out, words, probe_end);
-    answer_call(words, a, b, probe, out, text, used)
+    let b_at = SHEETS + first;
+    let probe_at = b_at + second;
+    let out_at = probe_at + lists;
+    let mut a = sheet_of(words, SHEETS, first);
+    let mut b = sheet_of(words, b_at, second);
+    let mut probe = sheet_of(words, probe_at, lists);
+    let mut out = sheet_of(words, out_at, room);
+    answer_call(
+        head,
+        &mut a[..first],
+        &mut b[..second],
+        &mut probe[..lists],
+        &mut out[..room],
+    );
 }
 
 // A number as the size of a sheet.
@@ -223,42 +210,33 @@ fn size_of(word: u32) -> usize {
     word as usize
 }
 
-// Answers the case of these numbers, if they are one. The sheets lend as many words as it has.
-pub fn answer_case(
-    words: &[u32],
-    a: &mut [u32],
-    b: &mut [u32],
-    probe: &mut [u32],
-    out: &mut [u32],
-    text: &mut [u8; TEXT],
-    used: usize,
-) -> usize {
+// Answers the case of these numbers, if they are one: no sheet is too large, and no number is missing or left over.
+pub fn answer_case(words: &[u32]) {
     if words.len() < SHEETS {
-        return put_bad(text, used);
+        return print_bad();
     }
-    let a_size = size_of(words[SIZES]);
-    let b_size = size_of(words[SIZES + 1]);
-    let probe_size = size_of(words[SIZES + 2]);
-    let out_size = size_of(words[SIZES + 3]);
-    if a.len() < a_size {
-        return put_bad(text, used);
+    let head = head_of(words);
+    if !is_good(head) {
+        return print_bad();
     }
-    if b.len() < b_size {
-        return put_bad(text, used);
+    let a = size_of(head[SIZES]);
+    let b = size_of(head[SIZES + 1]);
+    let probe = size_of(head[SIZES + 2]);
+    let out = size_of(head[SIZES + 3]);
+    if SHEET < a {
+        return print_bad();
     }
-    if probe.len() < probe_size {
-        return put_bad(text, used);
+    if SHEET < b {
+        return print_bad();
     }
-    if out.len() < out_size {
-        return put_bad(text, used);
+    if PROBE_WORDS < probe {
+        return print_bad();
     }
-    answer_sheets(
-        words,
-        &mut a[..a_size],
-        &mut b[..b_size],
-        &mut probe[..probe_size],
-        &mut out[..out_size],
-        text,
-        used,
-    )
+    if OUTPUT_WORDS < out {
+        return print_bad();
+    }
+    if words.len() != SHEETS + a + b + probe + out {
+        return print_bad();
+    }
+    answer_sheets(head, words, a, b, probe, out);
 }

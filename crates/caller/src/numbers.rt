@@ -1,4 +1,5 @@
 // The numbers of a line, taken byte by byte: decimal digits, 32 bits at most; blanks part them.
+use crate::cases::LINE_WORDS;
 
 const MOST_WORD: u64 = 4294967295;
 
@@ -53,7 +54,7 @@ fn with_digit(line: Line, digit: u8) -> Line {
 }
 
 // Keeps the number that is begun, if there is one.
-pub fn end_number(words: &mut [u32], line: Line) -> Line {
+pub fn end_number(words: &mut [u32; LINE_WORDS], line: Line) -> Line {
     let count = line.count;
     let value = line.value;
     if !line.inside {
@@ -68,7 +69,7 @@ pub fn end_number(words: &mut [u32], line: Line) -> Line {
     if MOST_WORD < value {
         return bad_line();
     }
-    if words.len() <= count {
+    if LINE_WORDS <= count {
         return bad_line();
     }
     words[count] = value as u32;
@@ -82,7 +83,7 @@ pub fn end_number(words: &mut [u32], line: Line) -> Line {
 }
 
 // The line with one byte more, which is no LF.
-pub fn take_byte(words: &mut [u32], line: Line, byte: u8) -> Line {
+pub fn take_byte(words: &mut [u32; LINE_WORDS], line: Line, byte: u8) -> Line {
     if !line.good {
         return line;
     }

@@ -1,128 +1,122 @@
-// What is printed: an answer, a session record and words, through a buffer that is written out when it is full.
+// What is printed: an answer, a session record and every word of the sheets, each as a line of a word and numbers.
 use libc::STDOUT_FILENO;
 use replies::code_of;
 use rules::Answer;
+use rules::Reply;
 use rules::Session;
 use rules::Why;
+use text::putting::put_numbers;
+ghost use Prim.Native.Nat.{_+_, _≤_, _<_};
+ghost use lib.ListN.{length};
+ghost use Rattle.caller.specs.Cases.{pieceMost};
 
-pub const TEXT: usize = 65536;
+// The numbers that are put into a buffer and written at a time, each with a space and ten digits at most.
+const PIECE: usize = 256;
 
-// Writes out what the buffer holds.
-pub fn flush(text: &[u8], used: usize) {
-    if used < text.len() {
-        io::write_all(STDOUT_FILENO, &text[..used]);
-    } else {
-        io::write_all(STDOUT_FILENO, text);
-    }
+const TEXT: usize = 11 * PIECE;
+
+// The numbers of a session record.
+const RECORD: usize = 43;
+
+// An answer's kind by number, and its own number; a refusal's is its code.
+struct Told {
+    kind: u32,
+    n: u32,
 }
 
-// Each function from here on answers how much of the buffer is used after it.
-
-fn put_byte(text: &mut [u8; TEXT], used: usize, byte: u8) -> usize {
-    if used < TEXT {
-        text[used] = byte;
-        return used + 1;
-    }
-    flush(text, used);
-    text[0] = byte;
-    1
+pub fn print_bad() {
+    io::write_all(STDOUT_FILENO, b"BAD\n");
 }
 
-pub fn put_text(text: &mut [u8; TEXT], used: usize, said: &[u8]) -> usize {
-    let mut next = used;
+fn print_piece(numbers: &[u32])
+    requires { ⌜ length (now numbers) ≤ pieceMost ⌝ }
+{
+    let mut text = [0u8; TEXT];
+    let end = put_numbers(&mut text, 0, numbers);
+    io::write_all(STDOUT_FILENO, &text[..end]);
+}
+
+// Where the piece that starts at i ends.
+fn piece_end(i: usize, n: usize) -> usize
+    requires { ⌜ i < n ⌝ }
+    ensures { λ r. ⌜ (i < r) × (r ≤ n) × (r ≤ i + pieceMost) ⌝ }
+{
+    if n - i < PIECE {
+        return n;
+    }
+    i + PIECE
+}
+
+pub fn print_line(word: &[u8], numbers: &[u32]) {
+    io::write_all(STDOUT_FILENO, word);
     let mut i = 0;
-    while i < said.len() {
-        next = put_byte(text, next, said[i]);
-        i += 1;
+    while i < numbers.len() {
+        let end = piece_end(i, numbers.len());
+        print_piece(&numbers[i..end]);
+        i = end;
     }
-    next
+    io::write_all(STDOUT_FILENO, b"\n");
 }
 
-// A space and a number.
-fn put_number(text: &mut [u8; TEXT], used: usize, n: u32) -> usize {
-    let mut digits = [0u8; 20];
-    let count = io::decimal(n as u64, &mut digits);
-    let next = put_byte(text, used, b' ');
-    put_text(text, next, &digits[..count])
-}
-
-fn put_numbers(text: &mut [u8; TEXT], used: usize, words: &[u32]) -> usize {
-    let mut next = used;
-    let mut i = 0;
-    while i < words.len() {
-        next = put_number(text, next, words[i]);
-        i += 1;
-    }
-    next
-}
-
-fn put_flag(text: &mut [u8; TEXT], used: usize, flag: bool) -> usize {
-    if flag {
-        return put_number(text, used, 1);
-    }
-    put_number(text, used, 0)
-}
-
-// An answer that is no refusal: the number of its kind, and its own.
-fn put_kind(text: &mut [u8; TEXT], used: usize, kind: u32, n: u32) -> usize {
-    let word = put_text(text, used, b"ANSWER");
-    let next = put_number(text, word, kind);
-    let last = put_number(text, next, n);
-    put_byte(text, last, b'\n')
-}
-
-// A refusal: the number of its kind, its code, and the count that it needs, where it names one.
-fn put_refusal(text: &mut [u8; TEXT], used: usize, why: Why) -> usize {
-    let word = put_text(text, used, b"ANSWER");
-    let kind = put_number(text, word, 9);
-    let code = put_number(text, kind, code_of(why));
-    if let Why::RoomShort(n) = why {
-        let need = put_number(text, code, n);
-        return put_byte(text, need, b'\n');
-    }
-    put_byte(text, code, b'\n')
-}
-
-pub fn put_answer(text: &mut [u8; TEXT], used: usize, answer: Answer) -> usize {
+fn told_of(answer: Answer) -> Told {
     match answer {
-        Answer::Opened => put_kind(text, used, 0, 0),
-        Answer::Taken(n) => put_kind(text, used, 1, n),
-        Answer::Flushed(n) => put_kind(text, used, 2, n),
-        Answer::Ran(n) => put_kind(text, used, 3, n),
-        Answer::Shut => put_kind(text, used, 4, 0),
-        Answer::More(n) => put_kind(text, used, 5, n),
-        Answer::Done(n) => put_kind(text, used, 6, n),
-        Answer::MoreLone(n) => put_kind(text, used, 7, n),
-        Answer::DoneLone(n) => put_kind(text, used, 8, n),
-        Answer::Refused(why) => put_refusal(text, used, why),
+        Answer::Opened => Told { kind: 0, n: 0 },
+        Answer::Taken(n) => Told { kind: 1, n },
+        Answer::Flushed(n) => Told { kind: 2, n },
+        Answer::Ran(n) => Told { kind: 3, n },
+        Answer::Shut => Told { kind: 4, n: 0 },
+        Answer::More(n) => Told { kind: 5, n },
+        Answer::Done(n) => Told { kind: 6, n },
+        Answer::MoreLone(n) => Told { kind: 7, n },
+        Answer::DoneLone(n) => Told { kind: 8, n },
+        Answer::Refused(why) => Told {
+            kind: 9,
+            n: code_of(why),
+        },
     }
 }
 
-pub fn put_session(text: &mut [u8; TEXT], used: usize, session: Session) -> usize {
-    let word = put_text(text, used, b"SESSION");
+// The answer, with the count that a refusal needs where it names one.
+fn print_answer(answer: Answer) {
+    let told = told_of(answer);
+    if let Answer::Refused(why) = answer {
+        if let Why::RoomShort(need) = why {
+            return print_line(b"ANSWER", &[told.kind, told.n, need]);
+        }
+    }
+    print_line(b"ANSWER", &[told.kind, told.n]);
+}
+
+// A record's numbers, in the order of a case.
+fn numbers_of(session: Session) -> [u32; RECORD] {
     let a = session.a;
     let b = session.b;
-    let sizes = [
-        session.parts,
-        session.slots,
-        session.limit,
-        session.clock,
-        a.rows,
-        b.rows,
-    ];
-    let numbers = put_numbers(text, word, &sizes);
-    let a_closed = put_flag(text, numbers, a.closed);
-    let b_closed = put_flag(text, a_closed, b.closed);
-    let counts = session.counts;
-    let entries = put_numbers(text, b_closed, &counts);
     let lone = session.lone;
-    let places = [session.next, lone.a, lone.b];
-    let last = put_numbers(text, entries, &places);
-    put_byte(text, last, b'\n')
+    let counts = session.counts;
+    let mut numbers = [0; RECORD];
+    numbers[0] = session.parts;
+    numbers[1] = session.slots;
+    numbers[2] = session.limit;
+    numbers[3] = session.clock;
+    numbers[4] = a.rows;
+    numbers[5] = b.rows;
+    numbers[6] = a.closed as u32;
+    numbers[7] = b.closed as u32;
+    let mut i = 0;
+    while i < 32 {
+        numbers[8 + i] = counts[i];
+        i += 1;
+    }
+    numbers[40] = session.next;
+    numbers[41] = lone.a;
+    numbers[42] = lone.b;
+    numbers
 }
 
-pub fn put_sheet(text: &mut [u8; TEXT], used: usize, name: &[u8], words: &[u32]) -> usize {
-    let word = put_text(text, used, name);
-    let numbers = put_numbers(text, word, words);
-    put_byte(text, numbers, b'\n')
+// The answer and the record that a call handed back.
+pub fn print_reply(reply: Reply) {
+    let answer = reply.answer;
+    let session = reply.session;
+    print_answer(answer);
+    print_line(b"SESSION", &numbers_of(session));
 }

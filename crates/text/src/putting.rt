@@ -50,7 +50,7 @@ fn put_spaced(buf: &mut [u8], at: usize, n: u32) -> usize
     put_number(buf, at + 1, n)
 }
 
-fn put_numbers(buf: &mut [u8], at: usize, numbers: &[u32]) -> usize
+pub fn put_numbers(buf: &mut [u8], at: usize, numbers: &[u32]) -> usize
     requires { ⌜ at + (1 + numberMost) * length (now numbers) ≤ length (now buf) ⌝ }
     ensures { λ r.
         ⌜ Put (now (buf .entry)) at (numbersText (now (numbers .entry))) r (now (buf .exit)) × (r ≤ at + (1 + numberMost) * length (now (numbers .entry))) ⌝ }

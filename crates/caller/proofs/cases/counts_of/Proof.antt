@@ -6,10 +6,10 @@ use Rattle.caller.proofs.cases.counts_of.Statement.{statement}
 use Rattle.caller.proofs.cases.counts_of.Tie as tie
 
 abbrev Inv-loop : tie.InvT-loop
-Inv-loop words counts₀ i₀ counts i = i ≤ 32
+Inv-loop head counts₀ i₀ counts i = i ≤ 32
 
 abbrev μ-loop : tie.MeasureT-loop
-μ-loop words counts₀ i₀ counts i = 32 - i
+μ-loop head counts₀ i₀ counts i = 32 - i
 
 pub counts-of-spec : {M : Type 1} → statement M
 counts-of-spec =
