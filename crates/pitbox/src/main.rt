@@ -64,24 +64,28 @@ fn add_reply(text: &mut [u8], end: usize, reply: &[u8], bytes: usize) -> Filled
     }
 }
 
-// Answers the lines that end in a piece of the input, and writes their replies.
+// Answers the lines that end in the first n bytes of the input, and writes their replies.
 fn feed(
     going: Going,
     input: &[u8],
+    n: usize,
     a: &mut [u32; ROWS],
     b: &mut [u32; ROWS],
     probe: &mut [u32; PROBES],
     out: &mut [u32; OUTPUT],
     reply: &mut [u8; REPLY],
     text: &mut [u8; TEXT],
-) -> Going {
+) -> Going
+    requires { ⌜ n ≤ length (now input) ⌝ }
+{
+    let piece = &input[..n];
     let mut state = going.state;
     let mut line = going.line;
     let mut have = going.have;
     let mut end = 0;
     let mut at = 0;
-    while at < input.len() {
-        let served = serve(state, &mut line, have, input, at, a, b, probe, out, reply);
+    while at < piece.len() {
+        let served = serve(state, &mut line, have, piece, at, a, b, probe, out, reply);
         state = served.state;
         have = served.have;
         at = served.next;
@@ -123,21 +127,21 @@ fn answer_rest(
 // Reads once and answers what came. The end of the input ends the program, and so does a read or a write that fails.
 fn turn(
     going: Going,
-    input: &mut [u8],
+    input: &mut [u8; INPUT],
     a: &mut [u32; ROWS],
     b: &mut [u32; ROWS],
     probe: &mut [u32; PROBES],
     out: &mut [u32; OUTPUT],
-    reply: &mut [u8; REPLY],
-    text: &mut [u8; TEXT],
 ) -> Going {
+    let mut reply = [0; REPLY];
+    let mut text = [0; TEXT];
     let got = libc::read(STDIN_FILENO, input);
     if 0 < got {
         let n = io::count(got, input);
-        return feed(going, &input[..n], a, b, probe, out, reply, text);
+        return feed(going, input, n, a, b, probe, out, &mut reply, &mut text);
     }
     if got == 0 {
-        answer_rest(going, a, b, probe, out, reply);
+        answer_rest(going, a, b, probe, out, &mut reply);
     }
     let mut stopped = going;
     stopped.on = false;
@@ -145,15 +149,12 @@ fn turn(
 }
 
 // A proved loop has to end, and nothing says that the input does: it counts down from a number that no run uses up.
-fn run(
-    a: &mut [u32; ROWS],
-    b: &mut [u32; ROWS],
-    probe: &mut [u32; PROBES],
-    out: &mut [u32; OUTPUT],
-    input: &mut [u8],
-    reply: &mut [u8; REPLY],
-    text: &mut [u8; TEXT],
-) {
+fn main() {
+    let mut a = [0; ROWS];
+    let mut b = [0; ROWS];
+    let mut probe = [0; PROBES];
+    let mut out = [0; OUTPUT];
+    let mut input = [0; INPUT];
     let state = new_state();
     let mut going = Going {
         state,
@@ -164,29 +165,10 @@ fn run(
     let mut turns = u64::MAX;
     while 0 < turns {
         turns -= 1;
-        going = turn(going, input, a, b, probe, out, reply, text);
+        going = turn(going, &mut input, &mut a, &mut b, &mut probe, &mut out);
         let on = going.on;
         if !on {
             return;
         }
     }
-}
-
-fn main() {
-    let mut a = [0; ROWS];
-    let mut b = [0; ROWS];
-    let mut probe = [0; PROBES];
-    let mut out = [0; OUTPUT];
-    let mut input = [0; INPUT];
-    let mut reply = [0; REPLY];
-    let mut text = [0; TEXT];
-    run(
-        &mut a,
-        &mut b,
-        &mut probe,
-        &mut out,
-        &mut input,
-        &mut reply,
-        &mut text,
-    );
 }

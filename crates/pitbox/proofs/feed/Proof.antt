@@ -3,15 +3,22 @@
 use borrow.Author.Needs.{needs}
 use Prim.Native.Nat.{_-_, _≤_}
 use native.Mathlib.Omega.{arith}
+use mathlib.Core.Path.{sym}
 use lib.ListN.{length}
+use lib.Seq.{length-take-le}
 use Rattle.pitbox.proofs.feed.Statement.{statement}
 use Rattle.pitbox.proofs.feed.Tie as tie
 
 abbrev Inv-loop : tie.InvT-loop
-Inv-loop input a₀ b₀ probe₀ out₀ reply₀ text₀ state₀ line₀ have₀ end₀ at₀ a b probe out reply text state line have end at = end ≤ length text
+Inv-loop input n a₀ b₀ probe₀ out₀ reply₀ text₀ piece state₀ line₀ have₀ end₀ at₀ a b probe out reply text state line have end at =
+    end ≤ length text
 
 abbrev μ-loop : tie.MeasureT-loop
-μ-loop input a₀ b₀ probe₀ out₀ reply₀ text₀ state₀ line₀ have₀ end₀ at₀ a b probe out reply text state line have end at = length input - at
+μ-loop input n a₀ b₀ probe₀ out₀ reply₀ text₀ piece state₀ line₀ have₀ end₀ at₀ a b probe out reply text state line have end at =
+    length piece - at
+
+slice-aggregate-piece : tie.Need-slice-aggregate-piece Inv-loop μ-loop
+slice-aggregate-piece c = sym (length-take-le _ _ (omega arith))
 
 loop-less : tie.Need-loop-less Inv-loop μ-loop
 loop-less c =
@@ -25,6 +32,7 @@ feed-spec =
     (tie.spec
     Inv-loop
     μ-loop
+    slice-aggregate-piece
     (λ c. search needs)
     (λ c κs. search needs)
     (λ c κs. search needs)
