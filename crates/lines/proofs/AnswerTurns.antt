@@ -58,16 +58,16 @@ begins-answer t r = go (refused (r .answer))
 pub begun-fits : (t : State) (p m n : ℕ) (k : Lengths) (r : Outcome) → r ≡ begins t (opens p m n k) → writtenOf (r .answer) ≤ roomMost
 begun-fits t p m n k r e = omega (arith, ap (λ (x : Outcome). writtenOf (x .answer)) e, ap writtenOf (begins-answer t (opens p m n k)), opens-none p m n k)
 
-pub asked-fits : (c : Call) (t : State) (z : Sheets) (o : List ℕ) (r : Outcome) (z′ : Sheets) (o′ : List ℕ) → turned r z′ o′ ≡ asks c t z o
+pub asked-fits : (c : Call) (t : State) (z : Sheets) (o : List ℕ) (r : Outcome) → r ≡ asks c t z o .told
     → length o ≡ pairsNeed roomMost → roomIn c (pairsNeed roomMost) ≤ roomMost → writtenOf (r .answer) ≤ roomMost
-asked-fits c t z o r z′ o′ e n h =
-    omega (arith, asks-fits c t z o, room-less c (length o) (pairsNeed roomMost) (omega (arith, n)), h, ap (λ (y : Turn). writtenOf (y .told .answer)) e)
+asked-fits c t z o r e n h =
+    omega (arith, asks-fits c t z o, room-less c (length o) (pairsNeed roomMost) (omega (arith, n)), h, ap (λ (y : Outcome). writtenOf (y .answer)) e)
 
-pub asked-in-fits : (words : ℕ) (c : Call) (t : State) (z : Sheets) (o : List ℕ) (r : Outcome) (z′ : Sheets) (o′ : List ℕ) → turned r z′ o′ ≡ asksIn words c t z o
+pub asked-in-fits : (words : ℕ) (c : Call) (t : State) (z : Sheets) (o : List ℕ) (r : Outcome) → r ≡ asksIn words c t z o .told
     → roomIn c words ≤ roomMost → writtenOf (r .answer) ≤ roomMost
 unfolding asksIn
-asked-in-fits words c t z o r z′ o′ e h = let k : length (take words o) ≤ words = omega (arith, length-take words o) in
-    omega (arith, asks-fits c t z (take words o), room-less c (length (take words o)) words k, h, ap (λ (y : Turn). writtenOf (y .told .answer)) e)
+asked-in-fits words c t z o r e h = let k : length (take words o) ≤ words = omega (arith, length-take words o) in
+    omega (arith, asks-fits c t z (take words o), room-less c (length (take words o)) words k, h, ap (λ (y : Outcome). writtenOf (y .answer)) e)
 
 -- ---- what the functions hand back
 

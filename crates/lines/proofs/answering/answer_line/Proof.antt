@@ -2,6 +2,7 @@
 -- Assumes nothing.
 use borrow.Author.Needs.{needs}
 use native.Mathlib.Omega.{arith}
+use Rattle.rules.specs.World.{lent}
 use Rattle.lines.proofs.AnswerTurns.{says-turn}
 use Rattle.lines.proofs.answering.answer_line.Statement.{statement}
 use Rattle.lines.proofs.answering.answer_line.Tie as tie
@@ -14,7 +15,9 @@ put-reply-requires c κs =
 returns : tie.Need-returns
 returns c =
     let at-respond = c .before .before .before .before .before .before .before .before .before .before .before in
-    says-turn _ _ _ _ _ _ _ _ _ _ (at-respond .respond .ensures .0) (c .before .put-reply .ensures .0) (omega (arith, c .before .put-reply .ensures .1, at-respond .respond .ensures .1))
+    let entry = at-respond .before .before .before .before .before .before .before .before .before in
+    let ended = at-respond .respond .last .1 .1 in
+    says-turn _ _ (lent (entry .args .a .now) (entry .args .b .now) (entry .args .probe .now)) _ _ _ (lent (ended .0) (ended .1 .0) (ended .1 .1 .0)) _ _ _ (at-respond .respond .ensures .0) (c .before .put-reply .ensures .0) (omega (arith, c .before .put-reply .ensures .1, at-respond .respond .ensures .1))
 
 pub answer-line-spec : {M : Type 1} → statement M
 answer-line-spec =
