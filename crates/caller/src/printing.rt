@@ -15,9 +15,6 @@ const PIECE: usize = 256;
 
 const TEXT: usize = 11 * PIECE;
 
-// The numbers of a session record.
-const RECORD: usize = 43;
-
 // An answer's kind by number, and its own number; a refusal's is its code.
 struct Told {
     kind: u32,
@@ -47,14 +44,19 @@ fn piece_end(i: usize, n: usize) -> usize
     i + PIECE
 }
 
-pub fn print_line(word: &[u8], numbers: &[u32]) {
-    io::write_all(STDOUT_FILENO, word);
+// Numbers, each after a space.
+fn print_numbers(numbers: &[u32]) {
     let mut i = 0;
     while i < numbers.len() {
         let end = piece_end(i, numbers.len());
         print_piece(&numbers[i..end]);
         i = end;
     }
+}
+
+pub fn print_line(word: &[u8], numbers: &[u32]) {
+    io::write_all(STDOUT_FILENO, word);
+    print_numbers(numbers);
     io::write_all(STDOUT_FILENO, b"\n");
 }
 
@@ -88,29 +90,27 @@ fn print_answer(answer: Answer) {
 }
 
 // A record's numbers, in the order of a case.
-fn numbers_of(session: Session) -> [u32; RECORD] {
+fn print_session(session: Session) {
     let a = session.a;
     let b = session.b;
-    let lone = session.lone;
     let counts = session.counts;
-    let mut numbers = [0; RECORD];
-    numbers[0] = session.parts;
-    numbers[1] = session.slots;
-    numbers[2] = session.limit;
-    numbers[3] = session.clock;
-    numbers[4] = a.rows;
-    numbers[5] = b.rows;
-    numbers[6] = a.closed as u32;
-    numbers[7] = b.closed as u32;
-    let mut i = 0;
-    while i < 32 {
-        numbers[8 + i] = counts[i];
-        i += 1;
-    }
-    numbers[40] = session.next;
-    numbers[41] = lone.a;
-    numbers[42] = lone.b;
-    numbers
+    let lone = session.lone;
+    io::write_all(STDOUT_FILENO, b"SESSION");
+    print_numbers(
+        &[
+            session.parts,
+            session.slots,
+            session.limit,
+            session.clock,
+            a.rows,
+            b.rows,
+            a.closed as u32,
+            b.closed as u32,
+        ],
+    );
+    print_numbers(&counts);
+    print_numbers(&[session.next, lone.a, lone.b]);
+    io::write_all(STDOUT_FILENO, b"\n");
 }
 
 // The answer and the record that a call handed back.
@@ -118,5 +118,5 @@ pub fn print_reply(reply: Reply) {
     let answer = reply.answer;
     let session = reply.session;
     print_answer(answer);
-    print_line(b"SESSION", &numbers_of(session));
+    print_session(session);
 }

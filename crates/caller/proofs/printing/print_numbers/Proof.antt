@@ -1,28 +1,27 @@
--- `caller::printing::print_line` is safe and ends: the numbers that are left fall.
+-- `caller::printing::print_numbers` is safe and ends: the numbers that are left fall.
 -- Assumes nothing.
 use borrow.Author.Needs.{needs}
 use Prim.Native.Nat.{_≤_, _-_}
 use native.Mathlib.Omega.{arith}
 use lib.ListN.{length, length-take, length-drop}
-use Rattle.caller.proofs.printing.print_line.Statement.{statement}
-use Rattle.caller.proofs.printing.print_line.Tie as tie
+use Rattle.caller.proofs.printing.print_numbers.Statement.{statement}
+use Rattle.caller.proofs.printing.print_numbers.Tie as tie
 
 abbrev Inv-loop : tie.InvT-loop
-Inv-loop word numbers i₀ written i = i ≤ length numbers
+Inv-loop numbers i₀ i = i ≤ length numbers
 
 abbrev μ-loop : tie.MeasureT-loop
-μ-loop word numbers i₀ written i = length numbers - i
+μ-loop numbers i₀ i = length numbers - i
 
 print-piece-requires : tie.Need-print-piece-requires Inv-loop μ-loop
 print-piece-requires c κs = simp (length-take, length-drop) (omega arith)
 
-pub print-line-spec : {M : Type 1} → statement M
-print-line-spec =
+pub print-numbers-spec : {M : Type 1} → statement M
+print-numbers-spec =
     tie.close
     (tie.spec
     Inv-loop
     μ-loop
-    (λ c κs. search needs)
     (λ c. search needs)
     (λ c κs. search needs)
     (λ c. search needs)
@@ -32,6 +31,4 @@ print-line-spec =
     print-piece-requires
     (λ c. search needs)
     (λ c. search needs)
-    (λ c. search needs)
-    (λ c κs. search needs)
     (λ c. search needs))
