@@ -82,25 +82,21 @@ fn feed(
     let mut state = going.state;
     let mut line = going.line;
     let mut have = going.have;
+    let mut on = true;
     let mut end = 0;
     let mut at = 0;
-    while at < piece.len() {
+    while on & (at < piece.len()) {
         let served = serve(state, &mut line, have, piece, at, a, b, probe, out, reply);
         state = served.state;
         have = served.have;
         at = served.next;
         let filled = add_reply(text, end, reply, served.bytes);
         end = filled.end;
-        if !filled.on {
-            return Going {
-                state,
-                line,
-                have,
-                on: false,
-            };
-        }
+        on = filled.on;
     }
-    let on = write(text, end);
+    if on {
+        on = write(text, end);
+    }
     Going {
         state,
         line,
