@@ -1,15 +1,14 @@
 // The opening of a session.
-use crate::refusals::sizes_fit;
+use checks::refusals::sizes_fit;
 use rules::Answer;
 use rules::Feed;
-use rules::Lengths;
 use rules::Places;
 use rules::Reply;
 use rules::Session;
 use rules::Why;
 ghost use mathlib.Core.Path.{_≡_};
 ghost use Rattle.rules.specs.Calls.{fresh, opens};
-ghost use Rattle.rules.specs.World.{lent, lengths};
+ghost use Rattle.rules.specs.World.{bundle};
 
 // A record with nothing in it yet.
 pub fn new_session(parts: u32, slots: u32, limit: u32) -> Session
@@ -34,14 +33,9 @@ pub fn new_session(parts: u32, slots: u32, limit: u32) -> Session
 
 // Opens a session on sheets of any content. A refused opening hands back a record of zeros.
 pub fn open(parts: u32, slots: u32, limit: u32, a: &[u32], b: &[u32], probe: &[u32]) -> Reply
-    ensures { λ r. ⌜ r ≡ opens parts slots limit (lengths (lent (now (a .entry)) (now (b .entry)) (now (probe .entry)))) ⌝ }
+    ensures { λ r. ⌜ r ≡ opens parts slots limit (bundle (now (a .entry)) (now (b .entry)) (now (probe .entry))) ⌝ }
 {
-    let sizes = Lengths {
-        a: a.len(),
-        b: b.len(),
-        probe: probe.len(),
-    };
-    if sizes_fit(parts, slots, limit, sizes) {
+    if sizes_fit(parts, slots, limit, a, b, probe) {
         let session = new_session(parts, slots, limit);
         return Reply {
             answer: Answer::Opened,

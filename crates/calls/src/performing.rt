@@ -1,16 +1,16 @@
 // Any call, given as one value.
-use crate::arriving::arrive;
 use crate::closing::close;
-use crate::draining::drain;
-use crate::evicting::evict;
-use crate::listing::lone;
-use crate::running::run;
 use rules::Call;
 use rules::Reply;
 use rules::Session;
+use stage1::arriving::arrive;
+use stage1::evicting::evict;
+use stage2::running::run;
+use stage3::draining::drain;
+use stage3::listing::lone;
 ghost use mathlib.Core.Path.{_≡_};
 ghost use Rattle.rules.specs.Calls.{leaves, afterCall};
-ghost use Rattle.rules.specs.World.{world, lent};
+ghost use Rattle.rules.specs.World.{world, bundle, given};
 
 pub fn perform(
     session: Session,
@@ -20,7 +20,7 @@ pub fn perform(
     probe: &mut [u32],
     out: &mut [u32],
 ) -> Reply
-    ensures { λ r. ⌜ leaves r (lent (now (a .exit)) (now (b .exit)) (now (probe .exit))) (now (out .exit)) ≡ afterCall (world session (lent (now (a .entry)) (now (b .entry)) (now (probe .entry)))) (now (out .entry)) call ⌝ }
+    ensures { λ r. ⌜ leaves r (bundle (now (a .exit)) (now (b .exit)) (now (probe .exit))) (now (out .exit)) ≡ afterCall (world session (bundle (now (a .entry)) (now (b .entry)) (now (probe .entry)))) (given call (now (out .entry))) ⌝ }
 {
     match call {
         Call::Arrive(source, message) => arrive(session, source, message, a, b, probe, out),

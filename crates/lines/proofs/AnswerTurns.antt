@@ -6,27 +6,26 @@ use mathlib.Core.List.{List}
 use Prim.Native.Nat.{ℕ, _≤_}
 use native.Mathlib.Omega.{arith}
 use lib.ListN.{length, take, length-take}
+use Rattle.text.specs.Gathering.{Held}
+use Rattle.text.specs.Putting.{Put}
+use Rattle.text.specs.declared.gathering.Gathered.{Gathered}
+use Rattle.text.proofs.PutTurns.{put-none}
 use Rattle.sheets.specs.Layout.{pairsNeed}
 use Rattle.rules.specs.Answers.{writtenOf, refused}
 use Rattle.rules.specs.Calls.{opens, afterCall}
-use Rattle.rules.specs.World.{world, Sheets}
-use Rattle.rules.specs.Refusals.{roomIn}
+use Rattle.rules.specs.World.{world, Sheets, given}
+use Rattle.rules.specs.Rounds.{roomIn}
 use Rattle.rules.specs.declared.Call.{Call}
 use Rattle.rules.specs.declared.Call.the-variants as call
-use Rattle.rules.specs.declared.Lengths.{Lengths}
 use Rattle.rules.specs.declared.Reply.{Reply}
 use Rattle.rules.specs.declared.Why.the-variants.{NoStart}
 use Rattle.rules.proofs.Laws.{written-fits, opens-none}
+use Rattle.reading.specs.Reading.{roomMost, readLine}
+use Rattle.replies.specs.Printing.{replyMost, replyText}
+use Rattle.lines.specs.Answering.{Turn, turned, refuses, goesOn, begins, went, asks, asksIn, turnOf, replied, answered, silent, Says}
+use Rattle.lines.specs.Serving.{Serves}
 use Rattle.lines.specs.declared.answering.Outcome.{Outcome}
 use Rattle.lines.specs.declared.answering.State.{State}
-use Rattle.text.specs.declared.gathering.Gathered.{Gathered}
-use Rattle.lines.specs.Answering.{Turn, turned, refuses, goesOn, begins, went, asks, asksIn, turnOf, replied, answered, silent, Says}
-use Rattle.text.specs.Gathering.{Held}
-use Rattle.text.specs.Putting.{Put}
-use Rattle.replies.specs.Printing.{replyMost, replyText}
-use Rattle.reading.specs.Reading.{roomMost, readLine}
-use Rattle.lines.specs.Serving.{Serves}
-use Rattle.text.proofs.PutTurns.{put-none}
 
 -- ---- what an answer lists
 
@@ -34,8 +33,8 @@ asks-fits : (c : Call) (t : State) (z : Sheets) (o : List ℕ) → writtenOf (as
 unfolding asks
 asks-fits c t z o = go (t .started)
   where
-    go : (u : Bool) → writtenOf ((cond u (went (afterCall (world (t .session) z) o c)) (turned (refuses NoStart t) z o)) .told .answer) ≤ roomIn c (length o)
-    go true = written-fits (world (t .session) z) o c
+    go : (u : Bool) → writtenOf ((cond u (went (afterCall (world (t .session) z) (given c o))) (turned (refuses NoStart t) z o)) .told .answer) ≤ roomIn c (length o)
+    go true = written-fits (world (t .session) z) (given c o)
     go false = omega arith
 
 -- fewer words have no more room
@@ -55,8 +54,8 @@ begins-answer t r = go (refused (r .answer))
     go false = refl
 
 -- the same of what the functions hand back
-pub begun-fits : (t : State) (p m n : ℕ) (k : Lengths) (r : Outcome) → r ≡ begins t (opens p m n k) → writtenOf (r .answer) ≤ roomMost
-begun-fits t p m n k r e = omega (arith, ap (λ (x : Outcome). writtenOf (x .answer)) e, ap writtenOf (begins-answer t (opens p m n k)), opens-none p m n k)
+pub begun-fits : (t : State) (p m n : ℕ) (z : Sheets) (r : Outcome) → r ≡ begins t (opens p m n z) → writtenOf (r .answer) ≤ roomMost
+begun-fits t p m n z r e = omega (arith, ap (λ (x : Outcome). writtenOf (x .answer)) e, ap writtenOf (begins-answer t (opens p m n z)), opens-none p m n z)
 
 pub asked-fits : (c : Call) (t : State) (z : Sheets) (o : List ℕ) (r : Outcome) → r ≡ asks c t z o .told
     → length o ≡ pairsNeed roomMost → roomIn c (pairsNeed roomMost) ≤ roomMost → writtenOf (r .answer) ≤ roomMost

@@ -2,13 +2,13 @@
 use mathlib.Core.Path.{_≡_, sym, ap, _∙_}
 use mathlib.Core.List.{List}
 use Prim.Native.Nat.{ℕ}
+use Rattle.text.specs.Gathering.{Held}
+use Rattle.text.proofs.Laws.{put-one-result}
 use Rattle.rules.specs.World.{Sheets}
+use Rattle.lines.specs.Answering.{Left, Says}
+use Rattle.lines.specs.Serving.{Serves}
 use Rattle.lines.specs.declared.answering.State.{State}
 use Rattle.lines.specs.declared.serving.Served.{Served}
-use Rattle.lines.specs.Answering.{Left, Says}
-use Rattle.text.specs.Gathering.{Held}
-use Rattle.lines.specs.Serving.{Serves}
-use Rattle.text.proofs.Laws.{put-one-result}
 
 pub says-one-result : {x : Left} {d : List ℕ} {t t′ : State} {n n′ : ℕ} {z z′ : Sheets} {o o′ e e′ : List ℕ} → Says x d t n z o e → Says x d t′ n′ z′ o′ e′
     → (t ≡ t′) × (n ≡ n′) × (z ≡ z′) × (o ≡ o′) × (e ≡ e′)

@@ -7,14 +7,14 @@ use Prim.Native.Nat.{ℕ, _-_}
 use native.Mathlib.Omega.{arith}
 use lib.ListN.{take, drop, drop-of-length-le}
 use borrow.Author.Tests.{eq-eqb, ne-eqb}
-use Rattle.rules.specs.World.{Sheets}
-use Rattle.lines.specs.Answering.{Left, left, answered, silent}
 use Rattle.text.specs.Gathering.{Held, cut, linesFrom, gather}
-use Rattle.lines.specs.Serving.{served, finished, andThen, talk}
-use Rattle.lines.specs.declared.answering.State.{State}
+use Rattle.text.proofs.Laws.{Holds, holds-first, Found, gather-finds, gather-all}
+use Rattle.rules.specs.World.{Sheets}
 use Rattle.reading.specs.Reading.{lineMost}
 use Rattle.reading.proofs.Laws.{read-held}
-use Rattle.text.proofs.Laws.{Holds, holds-first, Found, gather-finds, gather-all}
+use Rattle.lines.specs.Answering.{Left, left, answered, silent}
+use Rattle.lines.specs.Serving.{served, finished, andThen, talk}
+use Rattle.lines.specs.declared.answering.State.{State}
 
 -- ---- one line
 

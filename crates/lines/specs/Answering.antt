@@ -4,10 +4,11 @@ use mathlib.Core.Bool.{true, false, cond}
 use mathlib.Core.List.{List, [], _++_}
 use Prim.Native.Nat.{ℕ, _≤_}
 use lib.ListN.{take, drop}
+use Rattle.text.specs.Putting.{Put}
 use Rattle.sheets.specs.Layout.{pairsNeed, singlesNeed}
 use Rattle.rules.specs.Answers.{refused}
 use Rattle.rules.specs.Calls.{After, fresh, opens, afterCall}
-use Rattle.rules.specs.World.{world, Sheets, lengths}
+use Rattle.rules.specs.World.{world, Sheets, given}
 use Rattle.rules.specs.declared.Answer.the-variants as answer
 use Rattle.rules.specs.declared.Call.{Call}
 use Rattle.rules.specs.declared.Call.the-variants as call
@@ -15,13 +16,12 @@ use Rattle.rules.specs.declared.Reply.{Reply}
 use Rattle.rules.specs.declared.Session.{Session}
 use Rattle.rules.specs.declared.Why.{Why}
 use Rattle.rules.specs.declared.Why.the-variants.{BadLine, NoStart}
-use Rattle.lines.specs.declared.answering.Outcome.{Outcome}
-use Rattle.lines.specs.declared.answering.State.{State}
+use Rattle.reading.specs.Reading.{roomMost, readLine}
 use Rattle.reading.specs.declared.Line.{Line}
 use Rattle.reading.specs.declared.Line.the-variants as line
-use Rattle.text.specs.Putting.{Put}
 use Rattle.replies.specs.Printing.{replyMost, replyText}
-use Rattle.reading.specs.Reading.{roomMost, readLine}
+use Rattle.lines.specs.declared.answering.Outcome.{Outcome}
+use Rattle.lines.specs.declared.answering.State.{State}
 
 -- ---- the state
 
@@ -63,7 +63,7 @@ went x = turned (goesOn (record { answer = x .answer; session = x .world .sessio
 
 -- a call in a session; "NoStart: .. a good line other than START before any accepted START"
 unfoldable pub asks : Call → State → Sheets → List ℕ → Turn
-asks c t z o = cond (t .started) (went (afterCall (world (t .session) z) o c)) (turned (refuses NoStart t) z o)
+asks c t z o = cond (t .started) (went (afterCall (world (t .session) z) (given c o))) (turned (refuses NoStart t) z o)
 
 -- "DRAIN uses the room it names", and so does LONE: the call is lent the first words of the output, and those behind them stay
 unfoldable pub asksIn : ℕ → Call → State → Sheets → List ℕ → Turn
@@ -71,7 +71,7 @@ asksIn words c t z o = let x = asks c t z (take words o) in turned (x .told) (x 
 
 -- "BadLine is tested before NoStart"
 abbrev pub turnOf : Line → State → Sheets → List ℕ → Turn
-turnOf (line.Start p m n) t z o = turned (begins t (opens p m n (lengths z))) z o
+turnOf (line.Start p m n) t z o = turned (begins t (opens p m n z)) z o
 turnOf (line.Ask c) t z o = asks c t z o
 turnOf (line.Drain room) t z o = asksIn (pairsNeed room) call.Drain t z o
 turnOf (line.Lone s room) t z o = asksIn (singlesNeed room) (call.Lone s) t z o

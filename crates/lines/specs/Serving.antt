@@ -5,11 +5,11 @@ use mathlib.Core.List.{List, [], _∷_, _++_}
 use Prim.Native.Nat.{ℕ}
 use lib.Dec.{eqb}
 use lib.ListN.{take}
+use Rattle.text.specs.Gathering.{Held}
 use Rattle.rules.specs.World.{Sheets}
+use Rattle.lines.specs.Answering.{Left, left, answered, silent, Says}
 use Rattle.lines.specs.declared.answering.State.{State}
 use Rattle.lines.specs.declared.serving.Served.{Served}
-use Rattle.lines.specs.Answering.{Left, left, answered, silent, Says}
-use Rattle.text.specs.Gathering.{Held}
 
 -- "A line ends at LF": then it is answered
 abbrev pub served : Held → State → Sheets → List ℕ → Left

@@ -17,7 +17,7 @@ use sheets::layout::singles_need;
 ghost use mathlib.Core.Path.{_≡_};
 ghost use Prim.Native.Nat.{_≤_};
 ghost use lib.ListN.{length};
-ghost use Rattle.rules.specs.World.{lent};
+ghost use Rattle.rules.specs.World.{bundle};
 ghost use Rattle.rules.specs.Answers.{writtenOf, refused};
 ghost use Rattle.reading.specs.Reading.{roomMost, readLine};
 ghost use Rattle.lines.specs.Answering.{unstarted, goesOn, begins, turned, asks, asksIn, turnOf, answered, Says};
@@ -108,7 +108,7 @@ fn ask(
     probe: &mut [u32],
     out: &mut [u32],
 ) -> Outcome
-    ensures { λ r. ⌜ turned r (lent (now (a .exit)) (now (b .exit)) (now (probe .exit))) (now (out .exit)) ≡ asks call state (lent (now (a .entry)) (now (b .entry)) (now (probe .entry))) (now (out .entry)) ⌝ }
+    ensures { λ r. ⌜ turned r (bundle (now (a .exit)) (now (b .exit)) (now (probe .exit))) (now (out .exit)) ≡ asks call state (bundle (now (a .entry)) (now (b .entry)) (now (probe .entry))) (now (out .entry)) ⌝ }
 {
     let started = state.started;
     if !started {
@@ -132,7 +132,7 @@ fn ask_in(
     out: &mut [u32],
 ) -> Outcome
     requires { ⌜ words ≤ length (now out) ⌝ }
-    ensures { λ r. ⌜ turned r (lent (now (a .exit)) (now (b .exit)) (now (probe .exit))) (now (out .exit)) ≡ asksIn words call state (lent (now (a .entry)) (now (b .entry)) (now (probe .entry))) (now (out .entry)) ⌝ }
+    ensures { λ r. ⌜ turned r (bundle (now (a .exit)) (now (b .exit)) (now (probe .exit))) (now (out .exit)) ≡ asksIn words call state (bundle (now (a .entry)) (now (b .entry)) (now (probe .entry))) (now (out .entry)) ⌝ }
 {
     ask(state, call, a, b, probe, &mut out[..words])
 }
@@ -146,7 +146,7 @@ fn respond(
     probe: &mut [u32],
     out: &mut [u32; OUTPUT],
 ) -> Outcome
-    ensures { λ r. ⌜ (turned r (lent (now (a .exit)) (now (b .exit)) (now (probe .exit))) (now (out .exit)) ≡ turnOf (readLine (now (line .entry))) state (lent (now (a .entry)) (now (b .entry)) (now (probe .entry))) (now (out .entry))) × (writtenOf (r .answer) ≤ roomMost) ⌝ }
+    ensures { λ r. ⌜ (turned r (bundle (now (a .exit)) (now (b .exit)) (now (probe .exit))) (now (out .exit)) ≡ turnOf (readLine (now (line .entry))) state (bundle (now (a .entry)) (now (b .entry)) (now (probe .entry))) (now (out .entry))) × (writtenOf (r .answer) ≤ roomMost) ⌝ }
 {
     match read_line(line) {
         Line::Start(parts, slots, limit) => begin(state, open(parts, slots, limit, a, b, probe)),
@@ -180,7 +180,7 @@ pub fn answer_line(
     out: &mut [u32; OUTPUT],
     reply: &mut [u8; REPLY],
 ) -> Answered
-    ensures { λ r. ⌜ Says (answered (now (line .entry)) state (lent (now (a .entry)) (now (b .entry)) (now (probe .entry))) (now (out .entry))) (now (reply .entry)) (r .state) (r .bytes) (lent (now (a .exit)) (now (b .exit)) (now (probe .exit))) (now (out .exit)) (now (reply .exit)) ⌝ }
+    ensures { λ r. ⌜ Says (answered (now (line .entry)) state (bundle (now (a .entry)) (now (b .entry)) (now (probe .entry))) (now (out .entry))) (now (reply .entry)) (r .state) (r .bytes) (bundle (now (a .exit)) (now (b .exit)) (now (probe .exit))) (now (out .exit)) (now (reply .exit)) ⌝ }
 {
     let outcome = respond(state, line, a, b, probe, out);
     let answer = outcome.answer;

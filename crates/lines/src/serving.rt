@@ -8,10 +8,10 @@ use reading::BUFFER;
 use text::gathering::take_bytes;
 ghost use Prim.Native.Nat.{_<_};
 ghost use lib.ListN.{length, take, drop};
-ghost use Rattle.rules.specs.World.{lent};
-ghost use Rattle.lines.specs.Answering.{answered, Says};
 ghost use Rattle.text.specs.Gathering.{gather};
+ghost use Rattle.rules.specs.World.{bundle};
 ghost use Rattle.reading.specs.Reading.{lineMost};
+ghost use Rattle.lines.specs.Answering.{answered, Says};
 ghost use Rattle.lines.specs.Serving.{finished, Serves};
 
 // The state, how many bytes of the next line there are, where the next byte of the input is, and the bytes of the reply.
@@ -33,7 +33,7 @@ fn answer_held(
     out: &mut [u32; OUTPUT],
     reply: &mut [u8; REPLY],
 ) -> Answered
-    ensures { λ r. ⌜ Says (answered (take have (now (line .entry))) state (lent (now (a .entry)) (now (b .entry)) (now (probe .entry))) (now (out .entry))) (now (reply .entry)) (r .state) (r .bytes) (lent (now (a .exit)) (now (b .exit)) (now (probe .exit))) (now (out .exit)) (now (reply .exit)) ⌝ }
+    ensures { λ r. ⌜ Says (answered (take have (now (line .entry))) state (bundle (now (a .entry)) (now (b .entry)) (now (probe .entry))) (now (out .entry))) (now (reply .entry)) (r .state) (r .bytes) (bundle (now (a .exit)) (now (b .exit)) (now (probe .exit))) (now (out .exit)) (now (reply .exit)) ⌝ }
 {
     if line.len() < have {
         return answer_line(state, line, a, b, probe, out, reply);
@@ -54,7 +54,7 @@ pub fn serve(
     out: &mut [u32; OUTPUT],
     reply: &mut [u8; REPLY],
 ) -> Served
-    ensures { λ r. ⌜ Serves (gather lineMost (now (line .entry)) have (drop from (now (input .entry))) from) state (lent (now (a .entry)) (now (b .entry)) (now (probe .entry))) (now (out .entry)) (now (reply .entry)) r (now (line .exit)) (lent (now (a .exit)) (now (b .exit)) (now (probe .exit))) (now (out .exit)) (now (reply .exit)) × (from < length (now (input .entry)) → from < r .next) ⌝ }
+    ensures { λ r. ⌜ Serves (gather lineMost (now (line .entry)) have (drop from (now (input .entry))) from) state (bundle (now (a .entry)) (now (b .entry)) (now (probe .entry))) (now (out .entry)) (now (reply .entry)) r (now (line .exit)) (bundle (now (a .exit)) (now (b .exit)) (now (probe .exit))) (now (out .exit)) (now (reply .exit)) × (from < length (now (input .entry)) → from < r .next) ⌝ }
 {
     let taken = take_bytes(line, have, input, from);
     if !taken.ended {
@@ -86,7 +86,7 @@ pub fn finish(
     out: &mut [u32; OUTPUT],
     reply: &mut [u8; REPLY],
 ) -> Answered
-    ensures { λ r. ⌜ Says (finished (now (line .entry)) have state (lent (now (a .entry)) (now (b .entry)) (now (probe .entry))) (now (out .entry))) (now (reply .entry)) (r .state) (r .bytes) (lent (now (a .exit)) (now (b .exit)) (now (probe .exit))) (now (out .exit)) (now (reply .exit)) ⌝ }
+    ensures { λ r. ⌜ Says (finished (now (line .entry)) have state (bundle (now (a .entry)) (now (b .entry)) (now (probe .entry))) (now (out .entry))) (now (reply .entry)) (r .state) (r .bytes) (bundle (now (a .exit)) (now (b .exit)) (now (probe .exit))) (now (out .exit)) (now (reply .exit)) ⌝ }
 {
     if have == 0 {
         return Answered { state, bytes: 0 };

@@ -10,10 +10,14 @@ use lib.ListN.{length, take}
 use lib.Seq.{take-all, length-take-le}
 use borrow.Author.Tests.{leb-true, leb-false}
 use Rattle.stamps.specs.declared.Source.{Source}
-use Rattle.sheets.specs.Layout.{pairsNeed}
-use Rattle.rules.specs.Refusals.{roomIn}
+use Rattle.text.specs.Fields.{fields, fieldAt}
 use Rattle.text.specs.declared.numbers.Number.{Number}
 use Rattle.text.specs.declared.numbers.Number.the-variants as number
+use Rattle.text.proofs.Laws.{Holds}
+use Rattle.sheets.specs.Layout.{pairsNeed}
+use Rattle.rules.specs.Rounds.{roomIn}
+use Rattle.reading.specs.Reading.{lineMost, numberAt, sideAt, threeOf, start, arrive, sourcedOf, evict, run, close, roomMost, roomed, drain, lone, closeLine, drainLine, lineOf, readLine}
+use Rattle.reading.specs.Words.{wordOf}
 use Rattle.reading.specs.declared.Line.{Line}
 use Rattle.reading.specs.declared.Line.the-variants as line
 use Rattle.reading.specs.declared.Three.{Three}
@@ -24,10 +28,6 @@ use Rattle.reading.specs.declared.words.Side.{Side}
 use Rattle.reading.specs.declared.words.Side.the-variants as side
 use Rattle.reading.specs.declared.words.Word.{Word}
 use Rattle.reading.specs.declared.words.Word.the-variants as word
-use Rattle.text.specs.Fields.{fields, fieldAt}
-use Rattle.reading.specs.Reading.{lineMost, numberAt, sideAt, threeOf, start, arrive, sourcedOf, evict, run, close, roomMost, roomed, drain, lone, closeLine, drainLine, lineOf, readLine}
-use Rattle.reading.specs.Words.{wordOf}
-use Rattle.text.proofs.Laws.{Holds}
 
 -- a line in its buffer reads as the whole line
 pub read-held : (l : List ℕ) (have : ℕ) (line : List ℕ) → Holds lineMost l have line → readLine (take have l) ≡ readLine line

@@ -5,9 +5,12 @@ use Prim.Native.Nat.{ℕ}
 use lib.Dec.{leb, eqb}
 use lib.ListN.{length, getD}
 use Rattle.stamps.specs.declared.Source.{Source}
-use Rattle.rules.specs.declared.Call.the-variants as call
+use Rattle.text.specs.Fields.{fields, fieldAt}
+use Rattle.text.specs.Numbers.{numberOf}
 use Rattle.text.specs.declared.numbers.Number.{Number}
 use Rattle.text.specs.declared.numbers.Number.the-variants as number
+use Rattle.rules.specs.declared.Call.the-variants as call
+use Rattle.reading.specs.Words.{sideOf, wordOf}
 use Rattle.reading.specs.declared.words.Side.{Side}
 use Rattle.reading.specs.declared.words.Side.the-variants as side
 use Rattle.reading.specs.declared.words.Word.{Word}
@@ -18,9 +21,6 @@ use Rattle.reading.specs.declared.Three.{Three}
 use Rattle.reading.specs.declared.Three.the-variants as three
 use Rattle.reading.specs.declared.Sourced.{Sourced}
 use Rattle.reading.specs.declared.Sourced.the-variants as sourced
-use Rattle.text.specs.Fields.{fields, fieldAt}
-use Rattle.text.specs.Numbers.{numberOf}
-use Rattle.reading.specs.Words.{sideOf, wordOf}
 
 -- ---- the kinds of fields
 

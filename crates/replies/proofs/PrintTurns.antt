@@ -5,11 +5,11 @@ use mathlib.Core.List.{List, map}
 use Prim.Native.Nat.{ℕ, zero, suc, _+_, _*_, _≤_}
 use native.Mathlib.Omega.{arith}
 use lib.ListN.{length}
-use Rattle.sheets.specs.Layout.Laws.{pair-read, single-read}
-use Rattle.sheets.specs.Layout.{pairsNeed, pairAt, pairWords, singlesNeed, singleAt, singleWords}
-use Rattle.sheets.specs.Rooms.{readAll}
 use Rattle.text.specs.Putting.{rowIn, rowsIn}
 use Rattle.text.proofs.PutTurns.{row-fits}
+use Rattle.sheets.specs.Layout.Laws.{pair-read, single-read}
+use Rattle.sheets.specs.Layout.{pairsNeed, pairAt, pairWords, singlesNeed, singleAt, singleWords}
+use Rattle.pairs.specs.Rooms.{readAll}
 
 -- ---- the rows of an output are what it holds
 

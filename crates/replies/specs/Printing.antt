@@ -2,17 +2,17 @@
 use mathlib.Core.List.{List, [], _∷_, _++_, map}
 use Prim.Native.Nat.{ℕ, _+_, _*_}
 pub use Rattle.rules.specs.Answers.{codeOf, pairsOf, singlesOf, writtenOf}
+use Rattle.text.specs.Putting.{lineText, linesText, said}
+use Rattle.sheets.specs.Layout.{pairAt, pairWords, singleAt, singleWords}
+use Rattle.pairs.specs.Rooms.{readAll}
 use Rattle.rules.specs.declared.Answer.{Answer}
 use Rattle.rules.specs.declared.Answer.the-variants as answer
 use Rattle.rules.specs.declared.Why.{Why}
 use Rattle.rules.specs.declared.Why.the-variants as why
-use Rattle.sheets.specs.Layout.{pairAt, pairWords, singleAt, singleWords}
-use Rattle.sheets.specs.Rooms.{readAll}
 use Rattle.replies.specs.declared.Need.{Need}
 use Rattle.replies.specs.declared.Need.the-variants as need
 use Rattle.replies.specs.declared.Saying.{Saying}
 use Rattle.replies.specs.declared.Saying.the-variants as saying
-use Rattle.text.specs.Putting.{lineText, linesText, said}
 
 -- ---- fixed words
 

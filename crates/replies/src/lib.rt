@@ -9,8 +9,8 @@ use text::putting::put_said;
 ghost use mathlib.Core.Path.{_≡_};
 ghost use Prim.Native.Nat.{_+_, _≤_};
 ghost use lib.ListN.{length};
-ghost use Rattle.sheets.specs.Layout.{pairsNeed, singlesNeed};
 ghost use Rattle.text.specs.Putting.{Put};
+ghost use Rattle.sheets.specs.Layout.{pairsNeed, singlesNeed};
 ghost use Rattle.replies.specs.Printing.{codeOf, needOf, noText, sayingOf, answerMost, answerText, pairsOf, singlesOf, writtenOf, replyMost, replyText};
 
 // The number that document 01 gives a refusal.

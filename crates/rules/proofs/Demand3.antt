@@ -1,31 +1,32 @@
 -- Demand 3 holds after an accepted opening and any list of calls: from what holds between calls, by induction over the calls.
 -- Assumes nothing.
 use mathlib.Core.Path.{_≡_, refl, sym, ap, _∙_, subst}
-use mathlib.Core.Bool.{Bool, true, false, cond, not, _&&_, _||_, or-true}
+use mathlib.Core.Bool.{Bool, true, false, cond, _&&_, _||_, or-true}
 use mathlib.Core.List.{List, [], _∷_, _++_, map}
-use Prim.Native.Nat.{ℕ, _+_, _*_, _≤_, _<_}
+use Prim.Native.Nat.{ℕ, _*_, _≤_, _<_}
 use native.Mathlib.Omega.{arith}
 use lib.Dec.{ltb}
 use lib.ListN.{length, drop, length-map}
-use borrow.Author.Tests.{lt-ltb, eq-eqb}
-use Rattle.stamps.specs.declared.Source.{Source}
-use Rattle.stamps.specs.declared.Source.the-variants.{A, B}
-use Rattle.stamps.specs.declared.Item.{Item}
+use borrow.Author.Tests.{lt-ltb}
 use Rattle.stamps.specs.Counting.{bit}
 use Rattle.stamps.specs.Counting.Laws.{both, half-le}
 use Rattle.stamps.specs.Keys.{itemOf, itemsMatch}
 use Rattle.stamps.specs.Stamps.{inMemory}
 use Rattle.stamps.specs.Stamps.Laws.{done-memory}
-use Rattle.sheets.specs.Joins.{inside, done, numbers, isPair, times}
+use Rattle.stamps.specs.declared.Source.{Source}
+use Rattle.stamps.specs.declared.Source.the-variants.{A, B}
+use Rattle.stamps.specs.declared.Item.{Item}
 use Rattle.sheets.specs.Layout.{Told, roomOf}
-use Rattle.sheets.specs.Pairs.{position, tellOf, told}
-use Rattle.sheets.proofs.Rises.{missing-owed, drain-parts, owed-after, position-inside}
+use Rattle.sheets.specs.Layout.Laws.{shown-own}
+use Rattle.pairs.specs.Joins.{inside, numbers, isPair, times}
+use Rattle.pairs.specs.Pairs.{position, tellOf, told, done}
+use Rattle.pairs.proofs.Rises.{missing-owed, drain-parts, owed-after, position-inside}
 use Rattle.rules.specs.Answers.{codeOf}
 use Rattle.rules.specs.Calls.{After, owed, drains, effect, settle, afterCall, opens}
-use Rattle.rules.specs.Rounds.{Handed, sayingAt, Lent}
+use Rattle.rules.specs.Rounds.{Handed, sayingAt}
 use Rattle.rules.specs.Demand3.{wrote, opened, ForAnyCalls, accepted, itemsOf, pairOf, owes, left, Demand3, now, written}
-use Rattle.rules.specs.Refusals.{Check, verdict, tryChecks, sessionFits, bothClosed, idle, roomIn, checks}
-use Rattle.rules.specs.World.{World, countOf, rowsOf, seenFrom, move, lengths, Sheets}
+use Rattle.rules.specs.Refusals.{Check, verdict, tryChecks, bothClosed, idle, checks, ownChecks}
+use Rattle.rules.specs.World.{World, countOf, rowsOf, seenFrom, move, Sheets, given, Lent}
 use Rattle.rules.specs.declared.Call.{Call}
 use Rattle.rules.specs.declared.Call.the-variants.{Arrive, Evict, Run, Close, Drain, Lone}
 use Rattle.rules.specs.declared.Why.the-variants.{BadSheet}
@@ -47,7 +48,7 @@ use Rattle.rules.proofs.Steps.{Sits, drain-wrote, sits-call}
 prompt-now : (w : World) (l : List Told) → Sits w l → (i j : ℕ) → i < countOf w A → j < countOf w B → inMemory (rowsOf w A i) ≡ true → inMemory (rowsOf w B j) ≡ true
     → itemsMatch (rowsOf w A i .item) (rowsOf w B j .item) ≡ true → times (pairOf w i j) l ≡ 1
 prompt-now w l g i j a b h k m = g .sound .tells (pairOf w i j)
-    ∙ rw (lt-ltb i (countOf w A) a, lt-ltb j (countOf w B) b, m, eq-eqb (rowsOf w A i .item .key) (rowsOf w A i .item .key) refl, done-memory _ _ (rowsOf w A i) (rowsOf w B j) h k)
+    ∙ rw (lt-ltb i (countOf w A) a, lt-ltb j (countOf w B) b, m, shown-own (pairOf w i j .shown), done-memory _ _ (rowsOf w A i) (rowsOf w B j) h k)
 
 -- ---- c and d: one drain, and what it leaves to the next
 
@@ -62,9 +63,9 @@ module _ (w : World) (o : List ℕ) where
   abbrev room : ℕ
   room = roomOf (length o)
 
-  drain-is : Shut w → 1 ≤ room → afterCall w o Drain ≡ drains w o
-  unfolding effect checks
-  drain-is g h = sym (settle-good w o Drain (drains w o) (shut-good w g room h) refl)
+  drain-is : Shut w → 1 ≤ room → afterCall w (given Drain o) ≡ drains w o
+  unfolding effect ownChecks
+  drain-is g h = sym (settle-good w (given Drain o) (drains w o) (shut-good w g room h) refl)
 
   -- what it leaves
   owed-drained : Fit w → owed (drains w o .world) ≡ drop room (owed w)
@@ -75,15 +76,15 @@ module _ (w : World) (o : List ℕ) where
   unfolding drains
   drain-gives g h = gives-first Drain More Done owed w o (drains w o) (drain-is g h) refl (owed-drained (g .fit))
 
-  shut-drained : Shut w → 1 ≤ room → Shut (afterCall w o Drain .world)
+  shut-drained : Shut w → 1 ≤ room → Shut (afterCall w (given Drain o) .world)
   unfolding drains move
   shut-drained g h = subst (λ (r : After). Shut (r .world)) (sym (drain-is g h))
       (record { fit = fit-move _ w (g .fit) (drain-parts (seenFrom A w) (w .session .next) room (g .fit .next) .to); closed = g .closed })
 
   module _ (l : List Told) (g : Sits w l) where
-    drained : bothClosed (w .session) ≡ true → 1 ≤ room → let r = afterCall w o Drain in Handed More Done (left w l) room (wrote r) (r .answer)
+    drained : bothClosed (w .session) ≡ true → 1 ≤ room → let r = afterCall w (given Drain o) in Handed More Done (left w l) room (wrote r) (r .answer)
     drained c h = let shut : Shut w = record { fit = g .fit; closed = c } in
-        handed More Done (tellOf A (seenFrom A w)) (owed w) _ _ room _ (left-owed w l g) (ap wrote (drain-is shut h) ∙ drain-wrote w l o g) (drain-gives shut h .says)
+        handed More Done (tellOf A (seenFrom A w)) (owed w) _ _ room _ (left-owed w l g) (ap wrote (drain-is shut h) ∙ drain-wrote w l (given Drain o) g) (drain-gives shut h .says)
 
   -- the last one, after which all are written
   last-drained : (n : ℕ) → drains w o .answer ≡ Done n → ltb room (length (owed w)) ≡ false
@@ -100,11 +101,11 @@ module _ (w : World) (o : List ℕ) where
 
 -- ---- e: after Done, and number 1
 
-whole-now : (w : World) (l : List Told) → Sits w l → (o : List ℕ) (n : ℕ) → afterCall w o Drain .answer ≡ Done n → (x : Told) → times x (l ++ wrote (afterCall w o Drain)) ≡ owes w x
+whole-now : (w : World) (l : List Told) → Sits w l → (o : List ℕ) (n : ℕ) → afterCall w (given Drain o) .answer ≡ Done n → (x : Told) → times x (l ++ wrote (afterCall w (given Drain o))) ≡ owes w x
 unfolding afterCall effect
-whole-now w l g o n e x = sits-call w l o g Drain .sound .tells x ∙ go (verdict (checks w Drain (roomOf (length o)))) e
+whole-now w l g o n e x = sits-call w l (given Drain o) g .sound .tells x ∙ go (verdict (checks w (given Drain o))) e
   where
-    go : (v : Verdict) → settle v w o (drains w o) .answer ≡ Done n → bit (isOut (settle v w o (drains w o) .world) x) ≡ owes w x
+    go : (v : Verdict) → let r = settle v w o (drains w o) in r .answer ≡ Done n → bit (isOut (r .world) x) ≡ owes w x
     go Good h = whole-drained w o (last-drained w o n h) x
     go (No y) h = let z : _≡_ {A = ℕ} 0 1 = cc in absurd (omega arith)
 
@@ -126,28 +127,25 @@ never-first : (c : Check) (cs : List Check) → c .fails ≡ false → Others cs
 unfolding verdict
 never-first c cs f h e = never cs h (rw f at e)
 
-fits-now : (w : World) (l : List Told) → Sits w l → (o : List ℕ) (c : Call) → afterCall w o c .answer ≡ Refused BadSheet → ⊥
-unfolding checks
-fits-now w l g o c e = go c (refused-by w o c BadSheet e)
+fits-now : (w : World) (l : List Told) → Sits w l → (c : Lent) → afterCall w c .answer ≡ Refused BadSheet → ⊥
+unfolding ownChecks
+fits-now w l g c e = never-first _ _ (rw (fits-hold w (g .fit))) (own (c .call)) (refused-by w c BadSheet e)
   where
-    good : not (sessionFits (w .session) (lengths (w .sheets))) ≡ false
-    good = rw (fits-hold w (g .fit))
-
-    rest : (s : Source) (q : ℕ) (u : Bool) → Others (cond u [] (tryChecks w s q (roomOf (length o))))
+    rest : (s : Source) (q : ℕ) (u : Bool) → Others (cond u [] (tryChecks w s q (roomOf (length (c .out)))))
     rest s q true = tt
     rest s q false = (λ h. omega arith, (λ h. omega arith, tt))
 
-    go : (c : Call) → verdict (checks w c (roomIn c (length o))) ≡ No BadSheet → ⊥
-    go (Arrive s m) = never-first _ _ good (λ h. omega arith, (λ h. omega arith, (λ h. omega arith, (λ h. omega arith, tt))))
-    go (Evict s q) = never-first _ _ good (λ h. omega arith, (λ h. omega arith, tt))
-    go (Run s q) = never-first _ _ good (λ h. omega arith, (λ h. omega arith, rest s q (idle w s q)))
-    go (Close s) = never-first _ _ good (λ h. omega arith, tt)
-    go Drain = never-first _ _ good (λ h. omega arith, (λ h. omega arith, tt))
-    go (Lone s) = never-first _ _ good (λ h. omega arith, (λ h. omega arith, tt))
+    own : (k : Call) → Others (ownChecks k w c)
+    own (Arrive s m) = (λ h. omega arith, (λ h. omega arith, (λ h. omega arith, (λ h. omega arith, tt))))
+    own (Evict s q) = (λ h. omega arith, (λ h. omega arith, tt))
+    own (Run s q) = (λ h. omega arith, (λ h. omega arith, rest s q (idle w s q)))
+    own (Close s) = (λ h. omega arith, tt)
+    own Drain = (λ h. omega arith, (λ h. omega arith, tt))
+    own (Lone s) = (λ h. omega arith, (λ h. omega arith, tt))
 
 -- ---- the demand
 
-module _ (p m n : ℕ) (x : Sheets) (e : opens p m n (lengths x) .answer ≡ Opened) (calls : List Lent) where
+module _ (p m n : ℕ) (x : Sheets) (e : opens p m n x .answer ≡ Opened) (calls : List Lent) where
   abbrev start : World
   start = opened p m n x
 

@@ -10,20 +10,20 @@ use lib.Dec.{eqb}
 use lib.ListN.{length, getD, set}
 use lib.Seq.{getD-set-same, getD-set-other}
 use borrow.Author.Tests.{le-leb, eqb-true}
+use Rattle.stamps.specs.Counting.Laws.{tests, eqb-ne}
+use Rattle.stamps.specs.Sources.{other}
 use Rattle.stamps.specs.declared.Source.{Source}
 use Rattle.stamps.specs.declared.Source.the-variants.{A, B}
 use Rattle.stamps.specs.declared.Item.{Item}
-use Rattle.stamps.specs.Counting.Laws.{tests, eqb-ne}
-use Rattle.stamps.specs.Sources.{other}
 use Rattle.sheets.specs.Layout.{rowsNeed, probeNeed, listNo}
-use Rattle.sheets.specs.Pairs.{Side}
-use Rattle.sheets.proofs.Changes.{memoryOf, flush-memory, store-memory}
 use Rattle.sheets.proofs.Laws.{length-list}
+use Rattle.pairs.specs.Pairs.{Side}
+use Rattle.pairs.proofs.Changes.{memoryOf, flush-memory, store-memory}
 use Rattle.rules.specs.Refusals.{countsFit, sessionFits}
-use Rattle.rules.specs.Fits.{Sizes}
-use Rattle.rules.specs.World.{World, pick, countOf, sheetOf, placeOf, sideOf, withNext, withLone, withPlace, flush, store, note, shut, move, pass, world, lengths}
+use Rattle.rules.specs.World.{World, pick, countOf, sheetOf, placeOf, sideOf, withNext, withLone, withPlace, flush, store, note, shut, move, pass, world}
 use Rattle.rules.specs.declared.Places.{Places}
 use Rattle.rules.proofs.Seen.{both-sources, Extent, extent, Seen, flush-seen, store-seen, Listable, note-seen}
+use Rattle.rules.proofs.Checks.{Sizes}
 
 -- the sizes of a box are in range, and its sheets are long enough
 abbrev SizesIn : Extent → Type 0
@@ -179,7 +179,7 @@ counts-hold : (counts : List ℕ) (n : ℕ) → ((k : ℕ) → k < n → getD co
 counts-hold counts zero h = refl
 counts-hold counts (suc n) h = rw (counts-hold counts n (λ k b. h k (omega arith)), le-leb (getD counts n 0) 32 (h n (omega arith)))
 
-pub fits-hold : (w : World) → Fit w → sessionFits (w .session) (lengths (w .sheets)) ≡ true
+pub fits-hold : (w : World) → Fit w → sessionFits w ≡ true
 unfolding sessionFits
 fits-hold w f = let t = w .session in let z = f .sizes in
     rw (

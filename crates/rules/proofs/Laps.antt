@@ -8,19 +8,18 @@ use Prim.Native.Nat.{ℕ, zero, suc, _<_}
 use native.Mathlib.Omega.{arith}
 use lib.ListN.{length, getD, length-map, List·getD-map}
 use borrow.Author.Tests.{not-false}
+use Rattle.stamps.specs.Counting.Laws.{Each, length-values, values-at}
+use Rattle.stamps.specs.Keys.{inRange, itemOf, itemsMatch}
+use Rattle.stamps.specs.Keys.Laws.{match-same}
 use Rattle.stamps.specs.declared.Source.{Source}
 use Rattle.stamps.specs.declared.Source.the-variants.{A, B}
 use Rattle.stamps.specs.declared.Item.{Item}
 use Rattle.stamps.specs.declared.Message.{Message}
-use Rattle.stamps.specs.Counting.Laws.{Each, length-values, values-at}
-use Rattle.stamps.specs.Keys.{inRange, itemOf, itemsMatch}
-use Rattle.stamps.specs.Keys.Laws.{match-same}
 use Rattle.rules.specs.Answers.{refused}
 use Rattle.rules.specs.Calls.{effect, settle, afterCall}
 use Rattle.rules.specs.Demand3.{offered, accepted, itemsOf}
-use Rattle.rules.specs.Refusals.{verdict, roomIn, checks}
-use Rattle.rules.specs.Rounds.{Lent}
-use Rattle.rules.specs.World.{World, same, countOf, rowsOf}
+use Rattle.rules.specs.Refusals.{verdict, checks, ownChecks}
+use Rattle.rules.specs.World.{World, same, countOf, rowsOf, Lent}
 use Rattle.rules.specs.declared.Call.{Call}
 use Rattle.rules.specs.declared.Call.the-variants.{Arrive, Evict, Run, Close, Drain, Lone}
 use Rattle.rules.specs.declared.Verdict.{Verdict}
@@ -43,13 +42,13 @@ ranged-at [] h i d b = absurd (omega arith)
 ranged-at (m ∷ l) h zero d b = h .0
 ranged-at (m ∷ l) h (suc i) d b = ranged-at l (h .1) i d (omega arith)
 
-module _ (s : Source) (w : World) (o : List ℕ) where
-  offered-ranged : (c : Call) → verdict (checks w c (roomIn c (length o))) ≡ Good → Ranged (offered s c)
-  unfolding checks
+module _ (s : Source) (w : World) (c : Lent) where
+  offered-ranged : (k : Call) → verdict (ownChecks k w c) ≡ Good → Ranged (offered s k)
+  unfolding ownChecks
   offered-ranged (Arrive v m) h = own (same v s)
     where
       own : (u : Bool) → Ranged (cond u (m ∷ []) [])
-      own true = (not-false _ (verdict-first _ _ (verdict-rest _ _ h)), tt)
+      own true = (not-false _ (verdict-first _ _ h), tt)
       own false = tt
   offered-ranged (Evict v q) h = tt
   offered-ranged (Run v q) h = tt
@@ -57,18 +56,18 @@ module _ (s : Source) (w : World) (o : List ℕ) where
   offered-ranged Drain h = tt
   offered-ranged (Lone v) h = tt
 
-  call-ranged : (c : Call) → Ranged (cond (refused (afterCall w o c .answer)) [] (offered s c))
+  call-ranged : Ranged (cond (refused (afterCall w c .answer)) [] (offered s (c .call)))
   unfolding afterCall
-  call-ranged c = go (verdict (checks w c (roomIn c (length o)))) refl
+  call-ranged = go (verdict (checks w c)) refl
     where
-      go : (v : Verdict) → verdict (checks w c (roomIn c (length o))) ≡ v → Ranged (cond (refused (settle v w o (effect w o c) .answer)) [] (offered s c))
-      go Good e = rw (accepts w o c) (offered-ranged c e)
+      go : (v : Verdict) → verdict (checks w c) ≡ v → Ranged (cond (refused (settle v w (c .out) (effect (c .call) w c) .answer)) [] (offered s (c .call)))
+      go Good e = rw (accepts (c .call) w c) (offered-ranged (c .call) (verdict-rest _ _ e))
       go (No y) e = tt
 
 accepted-ranged : (s : Source) (w : World) (cs : List Lent) → Ranged (accepted s w cs)
 accepted-ranged s w [] = tt
-accepted-ranged s w (c ∷ cs) = let r = afterCall w (c .out) (c .call) in
-    ranged-append (cond (refused (r .answer)) [] (offered s (c .call))) (accepted s (r .world) cs) (call-ranged s w (c .out) (c .call)) (accepted-ranged s (r .world) cs)
+accepted-ranged s w (c ∷ cs) = let r = afterCall w c in
+    ranged-append (cond (refused (r .answer)) [] (offered s (c .call))) (accepted s (r .world) cs) (call-ranged s w c) (accepted-ranged s (r .world) cs)
 
 -- ---- rows and their messages
 

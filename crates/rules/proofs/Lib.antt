@@ -3,6 +3,7 @@ mod Apart
 pub mod Checks
 pub mod Demand3
 mod Fitting
+pub mod Flushing
 mod Laps
 pub mod Laws
 pub mod Lone

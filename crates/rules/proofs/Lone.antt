@@ -8,25 +8,24 @@ use native.Mathlib.Omega.{arith}
 use lib.Dec.{ltb, eqb, leb·suc-zero}
 use lib.ListN.{length, take, drop, length-take, length-map}
 use borrow.Author.Tests.{not-false}
-use Rattle.stamps.specs.declared.Source.{Source}
-use Rattle.stamps.specs.declared.Source.the-variants.{A, B}
 use Rattle.stamps.specs.Counting.{bit}
 use Rattle.stamps.specs.Counting.Laws.{half-le, count-append}
+use Rattle.stamps.specs.declared.Source.{Source}
+use Rattle.stamps.specs.declared.Source.the-variants.{A, B}
 use Rattle.sheets.specs.Layout.{Single, Told, singlesNeed, singleRoom, singleAt, putSingle}
-use Rattle.sheets.specs.Lones.{Items, isLone, number, single, isSingle, sameSingle, listings}
-use Rattle.sheets.specs.Rooms.{onward}
-use Rattle.sheets.proofs.Alone.{lone-parts, lone-tells, lones-after, unlisted-left}
-use Rattle.sheets.proofs.Handing.{read-told, Parts}
-use Rattle.sheets.proofs.Laws.{single-words}
+use Rattle.pairs.specs.Lones.{Items, isLone, number, single, isSingle, sameSingle, listings}
+use Rattle.pairs.specs.Rooms.{onward}
+use Rattle.pairs.proofs.Alone.{lone-parts, lone-tells, lones-after, unlisted-left}
+use Rattle.pairs.proofs.Handing.{read-told, Parts}
+use Rattle.pairs.proofs.Laws.{single-words}
 use Rattle.rules.specs.Answers.{singlesOf}
 use Rattle.rules.specs.Calls.{After, alone, lists, effect, settle, afterCall, opens}
 use Rattle.rules.specs.Demand3.{wrote, afterCalls, opened, ForAnyCalls}
 use Rattle.rules.specs.Lone.{asks, named, listed, toList, Lones}
-use Rattle.rules.specs.Refusals.{verdict, bothClosed, checks}
-use Rattle.rules.specs.Rounds.{Lent, Handed, sayingAt}
-use Rattle.rules.specs.World.{World, pick, same, countOf, placeOf, itemsFrom, pass, Sheets, lengths}
+use Rattle.rules.specs.Refusals.{verdict, bothClosed, checks, ownChecks}
+use Rattle.rules.specs.Rounds.{Handed, sayingAt}
+use Rattle.rules.specs.World.{World, pick, same, countOf, placeOf, itemsFrom, pass, Sheets, given, withCall, Lent}
 use Rattle.rules.specs.declared.Places.{Places}
-use Rattle.rules.specs.declared.Call.{Call}
 use Rattle.rules.specs.declared.Call.the-variants.{Lone}
 use Rattle.rules.specs.declared.Answer.the-variants.{Opened, MoreLone, DoneLone}
 use Rattle.rules.specs.declared.Verdict.{Verdict}
@@ -45,9 +44,9 @@ module _ (s : Source) (w : World) (o : List ℕ) where
   abbrev room : ℕ
   room = singleRoom (length o)
 
-  lone-is : Shut w → 1 ≤ room → afterCall w o (Lone s) ≡ lists s w o
-  unfolding effect checks
-  lone-is g h = sym (settle-good w o (Lone s) (lists s w o) (shut-good w g room h) refl)
+  lone-is : Shut w → 1 ≤ room → afterCall w (given (Lone s) o) ≡ lists s w o
+  unfolding effect ownChecks
+  lone-is g h = sym (settle-good w (given (Lone s) o) (lists s w o) (shut-good w g room h) refl)
 
   -- what it wrote is read back
   lone-named : named (lists s w o) ≡ map (single (itemsFrom s w)) (take room (alone s w))
@@ -76,7 +75,7 @@ module _ (s : Source) (w : World) (o : List ℕ) where
   unfolding lists
   lone-gives g h = gives-first (Lone s) MoreLone DoneLone (alone s) w o (lists s w o) (lone-is g h) refl (alone-listed (g .fit))
 
-  shut-listed : Shut w → 1 ≤ room → Shut (afterCall w o (Lone s) .world)
+  shut-listed : Shut w → 1 ≤ room → Shut (afterCall w (given (Lone s) o) .world)
   unfolding lists pass
   shut-listed g h = subst (λ (r : After). Shut (r .world)) (sym (lone-is g h))
       (record { fit = fit-pass s _ w (g .fit) (lone-parts (itemsFrom s w) (placeOf w s) room (g .fit .lone s) .to); closed = g .closed })
@@ -101,65 +100,68 @@ from-view B w m t = record { start = t .start; tells = t .tells }
 none-passed : (t : Items) (x : Single) (k : ℕ) → k ≡ 0 → bit (isSingle t x && ltb (x .row) k) ≡ 0
 none-passed t x k e = rw (e, leb·suc-zero (x .row), and-false (isSingle t x))
 
-module _ (s : Source) (w : World) (l : List Told) (o : List ℕ) (m : List Single) (g : Sits w l) (t : Tracks s w m) where
+module _ (s : Source) (w : World) (l : List Told) (c : Lent) (m : List Single) (g : Sits w l) (t : Tracks s w m) where
   -- a lone call while a source is open
-  open-lone : bothClosed (w .session) ≡ false → (v : Source) → (afterCall w o (Lone v) .world ≡ w) × (named (afterCall w o (Lone v)) ≡ [])
-  unfolding afterCall checks
-  open-lone h v = go (verdict (checks w (Lone v) (singleRoom (length o)))) refl
+  open-lone : bothClosed (w .session) ≡ false → (v : Source) (c : Lent) → let r = afterCall w (withCall (Lone v) c) in (r .world ≡ w) × (named r ≡ [])
+  unfolding afterCall ownChecks effect
+  open-lone h v c = go (verdict (checks w (withCall (Lone v) c))) refl
     where
-      go : (y : Verdict) → verdict (checks w (Lone v) (singleRoom (length o))) ≡ y → let r = settle y w o (effect w o (Lone v)) in (r .world ≡ w) × (named r ≡ [])
+      go : (y : Verdict) → verdict (checks w (withCall (Lone v) c)) ≡ y → let r = settle y w (c .out) (effect (Lone v) w c) in (r .world ≡ w) × (named r ≡ [])
       go Good e = absurd (false≢true (sym h ∙ not-false _ (verdict-first _ _ (verdict-rest _ _ e))))
       go (No y) e = (refl, refl)
 
-  open-place : bothClosed (w .session) ≡ false → (c : Call) → placeOf (afterCall w o c .world) s ≡ placeOf w s
-  open-place h = by-kind (λ c. placeOf (afterCall w o c .world) s ≡ placeOf w s) (λ c e. ap (λ (p : Places). pick s (p .a) (p .b)) (own-places w o c e))
-      (λ v. ap (λ (x : World). placeOf x s) (open-lone h v .0))
+  open-place : bothClosed (w .session) ≡ false → placeOf (afterCall w c .world) s ≡ placeOf w s
+  open-place h = by-kind (λ c. placeOf (afterCall w c .world) s ≡ placeOf w s) (λ c e. ap (λ (p : Places). pick s (p .a) (p .b)) (own-places w c e))
+      (λ v c. ap (λ (x : World). placeOf x s) (open-lone h v c .0)) c
 
   -- what a call has listed of the source
-  abbrev named-by : Call → List Single
-  named-by c = cond (asks s c) (named (afterCall w o c)) []
+  abbrev named-by : Lent → List Single
+  named-by c = cond (asks s (c .call)) (named (afterCall w c)) []
 
-  open-named : bothClosed (w .session) ≡ false → (c : Call) → named-by c ≡ []
-  open-named h = by-kind (λ c. named-by c ≡ []) (λ c e. rw (other-asks s c e)) (λ v. rw (open-lone h v .1) (go (same v s)))
+  open-named : bothClosed (w .session) ≡ false → named-by c ≡ []
+  open-named h = by-kind (λ c. named-by c ≡ []) (λ c e. rw (other-asks s (c .call) e)) (λ v c. rw (open-lone h v c .1) (go (same v s))) c
     where
       go : (u : Bool) → cond {A = List Single} u [] [] ≡ []
       go true = refl
       go false = refl
 
-  tracks-open : bothClosed (w .session) ≡ false → (c : Call) → Tracks s (afterCall w o c .world) (m ++ named-by c)
-  tracks-open h c = let z = open-place h c ∙ t .start h in
+  tracks-open : bothClosed (w .session) ≡ false → Tracks s (afterCall w c .world) (m ++ named-by c)
+  tracks-open h = let z = open-place h ∙ t .start h in
       record {
         start = λ e. z;
-        tells = λ x. ap (λ (k : List Single). listings x (m ++ k)) (open-named h c) ∙ ap (listings x) (append-nil m) ∙ t .tells x
-            ∙ none-passed (itemsFrom s w) x (placeOf w s) (t .start h) ∙ sym (none-passed (itemsFrom s (afterCall w o c .world)) x (placeOf (afterCall w o c .world) s) z);
+        tells = λ x. ap (λ (k : List Single). listings x (m ++ k)) (open-named h) ∙ ap (listings x) (append-nil m) ∙ t .tells x
+            ∙ none-passed (itemsFrom s w) x (placeOf w s) (t .start h) ∙ sym (none-passed (itemsFrom s (afterCall w c .world)) x (placeOf (afterCall w c .world) s) z);
       }
 
-  tracks-lone : bothClosed (w .session) ≡ true → Tracks s (afterCall w o (Lone s) .world) (m ++ named (afterCall w o (Lone s)))
+  tracks-lone : bothClosed (w .session) ≡ true → (c : Lent) → let r = afterCall w (withCall (Lone s) c) in Tracks s (r .world) (m ++ named r)
   unfolding afterCall effect lists pass
-  tracks-lone h = go (verdict (checks w (Lone s) (singleRoom (length o))))
+  tracks-lone h c = go (verdict (checks w (withCall (Lone s) c)))
     where
-      given : (x : Single) → listings x (m ++ named (lists s w o)) ≡ bit (isSingle (itemsFrom s w) x && ltb (x .row) (placeOf (lists s w o .world) s))
-      given x = count-append sameSingle x m (named (lists s w o)) ∙ ap (λ (k : List Single). listings x m + listings x k) (lone-named s w o)
+      o : List ℕ
+      o = c .out
+
+      told : (x : Single) → listings x (m ++ named (lists s w o)) ≡ bit (isSingle (itemsFrom s w) x && ltb (x .row) (placeOf (lists s w o .world) s))
+      told x = count-append sameSingle x m (named (lists s w o)) ∙ ap (λ (k : List Single). listings x m + listings x k) (lone-named s w o)
           ∙ rw (t .tells x) (lone-tells (itemsFrom s w) (placeOf w s) (singleRoom (length o)) (placeOf (lists s w o .world) s) (lone-next s w o (g .fit)) x)
 
-      go : (y : Verdict) → let r = settle y w o (lists s w o) in Tracks s (r .world) (m ++ named r)
-      go Good = record { start = λ e. absurd (true≢false (sym h ∙ e)); tells = given }
+      go : (y : Verdict) → let r = settle y w (c .out) (lists s w o) in Tracks s (r .world) (m ++ named r)
+      go Good = record { start = λ e. absurd (true≢false (sym h ∙ e)); tells = told }
       go (No y) = subst (Tracks s w) (sym (append-nil m)) t
 
-  tracks-call : (c : Call) → Tracks s (afterCall w o c .world) (m ++ named-by c)
-  tracks-call c = go (bothClosed (w .session)) refl (asks s c) refl
+  tracks-call : Tracks s (afterCall w c .world) (m ++ named-by c)
+  tracks-call = go (bothClosed (w .session)) refl (asks s (c .call)) refl
     where
-      go : (u : Bool) → bothClosed (w .session) ≡ u → (v : Bool) → asks s c ≡ v → Tracks s (afterCall w o c .world) (m ++ cond v (named (afterCall w o c)) [])
-      go true h true e = asks-own (λ c. Tracks s (afterCall w o c .world) (m ++ named (afterCall w o c))) s (tracks-lone h) c e
-      go true h false e = subst (Tracks s (afterCall w o c .world)) (sym (append-nil m))
-          (from-view s _ m (subst (λ (x : World). Tracks s x m) (sym (closed-leaves w o h s c e)) (to-view s w m t)))
-      go false h v e = subst (λ (v : Bool). Tracks s (afterCall w o c .world) (m ++ cond v (named (afterCall w o c)) [])) e (tracks-open h c)
+      go : (u : Bool) → bothClosed (w .session) ≡ u → (v : Bool) → asks s (c .call) ≡ v → Tracks s (afterCall w c .world) (m ++ cond v (named (afterCall w c)) [])
+      go true h true e = asks-own (λ c. Tracks s (afterCall w c .world) (m ++ named (afterCall w c))) s (tracks-lone h) c e
+      go true h false e = subst (Tracks s (afterCall w c .world)) (sym (append-nil m))
+          (from-view s _ m (subst (λ (x : World). Tracks s x m) (sym (closed-leaves w c h s e)) (to-view s w m t)))
+      go false h v e = subst (λ (v : Bool). Tracks s (afterCall w c .world) (m ++ cond v (named (afterCall w c)) [])) e (tracks-open h)
 
 tracks-calls : (s : Source) (w : World) (l : List Told) (m : List Single) (cs : List Lent) → Sits w l → Tracks s w m → Tracks s (afterCalls w l cs .world) (m ++ listed s w cs)
 tracks-calls s w l m [] g t = subst (Tracks s w) (sym (append-nil m)) t
-tracks-calls s w l m (c ∷ cs) g t = let r = afterCall w (c .out) (c .call) in
+tracks-calls s w l m (c ∷ cs) g t = let r = afterCall w c in
     subst (Tracks s (afterCalls w l (c ∷ cs) .world)) (append-assoc m (cond (asks s (c .call)) (named r) []) (listed s (r .world) cs))
-    (tracks-calls s (r .world) (l ++ wrote r) (m ++ cond (asks s (c .call)) (named r) []) cs (sits-call w l (c .out) g (c .call)) (tracks-call s w l (c .out) m g t (c .call)))
+    (tracks-calls s (r .world) (l ++ wrote r) (m ++ cond (asks s (c .call)) (named r) []) cs (sits-call w l c g) (tracks-call s w l c m g t))
 
 -- ---- after Done
 
@@ -168,9 +170,9 @@ unfolding lists
 last-listed s w o = said-last MoreLone DoneLone (λ m n h. let z : _≡_ {A = ℕ} 0 1 = cc in omega arith) (singleRoom (length o)) (alone s w)
 
 -- the position is at the end
-done-place : (s : Source) (w : World) (o : List ℕ) (n : ℕ) → afterCall w o (Lone s) .answer ≡ DoneLone n → placeOf (afterCall w o (Lone s) .world) s ≡ countOf w s
+done-place : (s : Source) (w : World) (o : List ℕ) (n : ℕ) → afterCall w (given (Lone s) o) .answer ≡ DoneLone n → placeOf (afterCall w (given (Lone s) o) .world) s ≡ countOf w s
 unfolding afterCall effect
-done-place s w o n = go (verdict (checks w (Lone s) (singleRoom (length o))))
+done-place s w o n = go (verdict (checks w (given (Lone s) o)))
   where
     go : (y : Verdict) → let r = settle y w o (lists s w o) in r .answer ≡ DoneLone n → placeOf (r .world) s ≡ countOf w s
     go Good e = lone-place s w o ∙ rw (last-listed s w o n e)
@@ -186,7 +188,7 @@ passed-all t x = go (ltb (x .row) (t .rows))
 
 -- ---- all of it
 
-module _ (p m n : ℕ) (x : Sheets) (e : opens p m n (lengths x) .answer ≡ Opened) (calls : List Lent) where
+module _ (p m n : ℕ) (x : Sheets) (e : opens p m n x .answer ≡ Opened) (calls : List Lent) where
   abbrev begun : World
   begun = opened p m n x
 
@@ -209,16 +211,16 @@ module _ (p m n : ℕ) (x : Sheets) (e : opens p m n (lengths x) .answer ≡ Ope
   length-left : (s : Source) → length (toList begun calls s) ≡ length (alone s w)
   length-left s = ap length (left-alone s) ∙ length-map (alone s w) (single (itemsFrom s w))
 
-  one-call : bothClosed (w .session) ≡ true → (s : Source) (o : List ℕ) → 1 ≤ singleRoom (length o) → let r = afterCall w o (Lone s) in
+  one-call : bothClosed (w .session) ≡ true → (s : Source) (o : List ℕ) → 1 ≤ singleRoom (length o) → let r = afterCall w (given (Lone s) o) in
       Handed MoreLone DoneLone (toList begun calls s) (singleRoom (length o)) (named r) (r .answer)
   one-call c s o h = let g : Shut w = record { fit = sits .fit; closed = c } in
       handed MoreLone DoneLone (single (itemsFrom s w)) (alone s w) _ _ (singleRoom (length o)) _ (left-alone s) (ap named (lone-is s w o g h) ∙ lone-named s w o) (lone-gives s w o g h .says)
 
-  whole-now : (s : Source) (o : List ℕ) (k : ℕ) → afterCall w o (Lone s) .answer ≡ DoneLone k
-      → (x : Single) → listings x (names s ++ named (afterCall w o (Lone s))) ≡ bit (isSingle (itemsFrom s w) x)
-  whole-now s o k d x = ap (λ (u : Bool). listings x (names s ++ cond u (named (afterCall w o (Lone s))) [])) (sym (same-own s))
-      ∙ tracks-call s w _ o (names s) sits (tracks s) (Lone s) .tells x
-      ∙ ap (λ (v : World). bit (isSingle (itemsFrom s v) x && ltb (x .row) (placeOf (afterCall w o (Lone s) .world) s))) (lone-leaves w o s)
+  whole-now : (s : Source) (o : List ℕ) (k : ℕ) → afterCall w (given (Lone s) o) .answer ≡ DoneLone k
+      → (x : Single) → listings x (names s ++ named (afterCall w (given (Lone s) o))) ≡ bit (isSingle (itemsFrom s w) x)
+  whole-now s o k d x = ap (λ (u : Bool). listings x (names s ++ cond u (named (afterCall w (given (Lone s) o))) [])) (sym (same-own s))
+      ∙ tracks-call s w _ (given (Lone s) o) (names s) sits (tracks s) .tells x
+      ∙ ap (λ (v : World). bit (isSingle (itemsFrom s v) x && ltb (x .row) (placeOf (afterCall w (given (Lone s) o) .world) s))) (lone-leaves w (given (Lone s) o) s)
       ∙ ap (λ (i : ℕ). bit (isSingle (itemsFrom s w) x && ltb (x .row) i)) (done-place s w o k d) ∙ ap bit (passed-all (itemsFrom s w) x)
 
   holds : Lones begun calls

@@ -7,18 +7,17 @@ use Prim.Native.Nat.{ℕ, zero, suc, _≤_, _<_}
 use native.Mathlib.Omega.{arith}
 use lib.Dec.{leb·suc-zero}
 use lib.ListN.{length-replicate, getD, replicate}
+use Rattle.stamps.specs.Counting.{values}
+use Rattle.stamps.specs.Stamps.Laws.{Below}
 use Rattle.stamps.specs.declared.Source.{Source}
 use Rattle.stamps.specs.declared.Source.the-variants.{A, B}
 use Rattle.stamps.specs.declared.Entry.{Entry}
-use Rattle.stamps.specs.Counting.{values}
-use Rattle.stamps.specs.Stamps.Laws.{Below}
 use Rattle.sheets.specs.Layout.{Told, listNo}
 use Rattle.sheets.proofs.Noted.{list-none}
 use Rattle.rules.specs.Calls.{opens, fresh}
-use Rattle.rules.specs.Rounds.{Lent}
 use Rattle.rules.specs.Demand3.{afterCalls, opened, itemsOf}
 use Rattle.rules.specs.Refusals.{sizesFit}
-use Rattle.rules.specs.World.{World, world, countOf, placeOf, rowsOf, Sheets, lengths}
+use Rattle.rules.specs.World.{World, world, countOf, placeOf, rowsOf, Sheets, lengths, Lent}
 use Rattle.rules.specs.declared.Why.the-variants.{BadSheet}
 use Rattle.rules.specs.declared.Answer.the-variants.{Opened, Refused}
 use Rattle.rules.specs.declared.Reply.{Reply}
@@ -67,7 +66,7 @@ sits-fresh p m n x e = record {
     empty h = rw h tt
 
 -- an opening that was accepted handed over a fresh record
-opened-fresh : (p m n : ℕ) (x : Sheets) → opens p m n (lengths x) .answer ≡ Opened
+opened-fresh : (p m n : ℕ) (x : Sheets) → opens p m n x .answer ≡ Opened
     → (sizesFit p m n (lengths x) ≡ true) × (opened p m n x ≡ world (fresh p m n) x)
 unfolding opens
 opened-fresh p m n x = go (sizesFit p m n (lengths x))
@@ -79,10 +78,10 @@ opened-fresh p m n x = go (sizesFit p m n (lengths x))
     go true h = (refl, refl)
     go false h = let z : _≡_ {A = ℕ} 0 1 = cc in absurd (omega arith)
 
-pub sits-opened : (p m n : ℕ) (x : Sheets) → opens p m n (lengths x) .answer ≡ Opened → Sits (opened p m n x) []
+pub sits-opened : (p m n : ℕ) (x : Sheets) → opens p m n x .answer ≡ Opened → Sits (opened p m n x) []
 sits-opened p m n x h = let f = opened-fresh p m n x h in subst (λ (w : World). Sits w []) (sym (f .1)) (sits-fresh p m n x (f .0))
 
-pub no-items : (p m n : ℕ) (x : Sheets) → opens p m n (lengths x) .answer ≡ Opened → (s : Source) → itemsOf (opened p m n x) s ≡ []
+pub no-items : (p m n : ℕ) (x : Sheets) → opens p m n x .answer ≡ Opened → (s : Source) → itemsOf (opened p m n x) s ≡ []
 unfolding values
 no-items p m n x h s = ap (λ (w : World). itemsOf w s) (opened-fresh p m n x h .1) ∙ go s
   where
@@ -90,7 +89,7 @@ no-items p m n x h s = ap (λ (w : World). itemsOf w s) (opened-fresh p m n x h 
     go A = refl
     go B = refl
 
-pub no-places : (p m n : ℕ) (x : Sheets) → opens p m n (lengths x) .answer ≡ Opened → (s : Source) → placeOf (opened p m n x) s ≡ 0
+pub no-places : (p m n : ℕ) (x : Sheets) → opens p m n x .answer ≡ Opened → (s : Source) → placeOf (opened p m n x) s ≡ 0
 no-places p m n x h s = ap (λ (w : World). placeOf w s) (opened-fresh p m n x h .1) ∙ go s
   where
     go : (s : Source) → placeOf (world (fresh p m n) x) s ≡ 0
@@ -99,4 +98,4 @@ no-places p m n x h s = ap (λ (w : World). placeOf w s) (opened-fresh p m n x h
 
 pub sits-calls : (w : World) (l : List Told) (cs : List Lent) → Sits w l → Sits (afterCalls w l cs .world) (afterCalls w l cs .written)
 sits-calls w l [] g = g
-sits-calls w l (c ∷ cs) g = sits-calls _ _ cs (sits-call w l (c .out) g (c .call))
+sits-calls w l (c ∷ cs) g = sits-calls _ _ cs (sits-call w l c g)

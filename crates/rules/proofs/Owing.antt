@@ -8,19 +8,20 @@ use native.Mathlib.Nat.{le-refl}
 use native.Mathlib.Omega.{arith}
 use lib.Dec.{ltb, leb·suc-zero}
 use lib.ListN.{length, take}
-use Rattle.stamps.specs.declared.Source.{Source}
-use Rattle.stamps.specs.declared.Source.the-variants.{A, B}
-use Rattle.stamps.specs.declared.Item.{Item}
 use Rattle.stamps.specs.Counting.{bit}
 use Rattle.stamps.specs.Counting.Laws.{count-append}
 use Rattle.stamps.specs.Sources.{other}
-use Rattle.sheets.specs.Joins.{done, numbers, isPair, same, times}
+use Rattle.stamps.specs.declared.Source.{Source}
+use Rattle.stamps.specs.declared.Source.the-variants.{A, B}
+use Rattle.stamps.specs.declared.Item.{Item}
 use Rattle.sheets.specs.Layout.{Told, rowsNeed}
-use Rattle.sheets.specs.Pairs.{Side, Table, position, tellAll, told}
 use Rattle.sheets.specs.Rows.{latest}
-use Rattle.sheets.proofs.Handing.{Parts}
-use Rattle.sheets.proofs.Rises.{drain-tells}
-use Rattle.sheets.proofs.Changes.{out, out-swap, Under, under-more, withA, flush-under, flush-out, store-under, store-out, latest-under, note-under, note-out}
+use Rattle.pairs.specs.Joins.{numbers, isPair, same, times}
+use Rattle.pairs.specs.Pairs.{Side, Table, position, tellAll, told, done}
+use Rattle.pairs.proofs.Handing.{Parts}
+use Rattle.pairs.proofs.Rises.{drain-tells}
+use Rattle.pairs.proofs.Changes.{out, out-swap, Under, under-more, withA, flush-under, flush-out, store-under, store-out, latest-under, note-under, note-out}
+use Rattle.pairs.proofs.Laws.{tried-is}
 use Rattle.rules.specs.Calls.{owed}
 use Rattle.rules.specs.Refusals.{arrived, ran}
 use Rattle.rules.specs.World.{World, countOf, sheetOf, closedOf, rowsOf, sideOf, seenFrom, flush, store, note, shut, move, pass}
@@ -73,7 +74,7 @@ pub sound-note : (s : Source) (q : ℕ) (w : World) (l : List Told) → Listable
     → Sound (note s q (latest (w .session .parts) q (rowsOf w s) (countOf w s)) w) (l ++ told s (seenFrom s w) (ran s q w))
 sound-note s q w l h z g = sound-change s w (note s q _ w) _ _ l _ (note-seen s q _ w h) g z (le-refl _)
     (note-under q (w .session .clock) _ (sideOf w s) (latest-under (w .session .parts) q (w .session .clock) (sideOf w s) (g .under s)) (g .under s))
-    λ x. note-out s (seenFrom s w) q (w .session .clock) x (g .under (other s))
+    λ x. rw (tried-is q (seenFrom s w)) (note-out s (seenFrom s w) q (w .session .clock) x (g .under (other s)))
 
 pub sound-shut : (s : Source) (w : World) (l : List Told) → Sound w l → Sound (shut s w) l
 unfolding shut

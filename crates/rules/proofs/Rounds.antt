@@ -11,12 +11,12 @@ use lib.ListN.{length, take, drop, length-take, length-drop, length-map}
 use borrow.Author.Tests.{le-leb, lt-leb, ne-eqb}
 use Rattle.stamps.specs.Counting.Laws.{tests}
 use Rattle.sheets.specs.Layout.{Told}
-use Rattle.sheets.proofs.Handing.{take-map}
+use Rattle.pairs.proofs.Handing.{take-map}
 use Rattle.rules.specs.Calls.{After, afterCall}
 use Rattle.rules.specs.Demand3.{wrote, afterCalls}
-use Rattle.rules.specs.Refusals.{verdict, bothClosed, drainChecks, roomIn}
-use Rattle.rules.specs.Rounds.{again, Rooms, saying, Handed, ceil, sayingAt}
-use Rattle.rules.specs.World.{World, lengths}
+use Rattle.rules.specs.Refusals.{verdict, bothClosed, drainChecks, sheetCheck, sessionFits}
+use Rattle.rules.specs.Rounds.{again, Rooms, saying, Handed, ceil, sayingAt, roomIn}
+use Rattle.rules.specs.World.{World, given}
 use Rattle.rules.specs.declared.Call.{Call}
 use Rattle.rules.specs.declared.Answer.{Answer}
 use Rattle.rules.specs.declared.Verdict.the-variants.{Good}
@@ -30,7 +30,7 @@ pub record Shut (w : World) : Type 0 where
   pub closed : bothClosed (w .session) ≡ true
 
 -- a drain or a lone call with some room is not refused there
-pub shut-good : (w : World) → Shut w → (room : ℕ) → 1 ≤ room → verdict (drainChecks (w .session) room (lengths (w .sheets))) ≡ Good
+pub shut-good : (w : World) → Shut w → (room : ℕ) → 1 ≤ room → verdict (sheetCheck (sessionFits w) ∷ drainChecks (w .session) room) ≡ Good
 unfolding verdict
 shut-good w g room h = rw (fits-hold w (g .fit), g .closed, ne-eqb room 0 (omega arith))
 
@@ -53,11 +53,11 @@ said-last more done apart r xs n = go (ltb r (length xs))
 
 -- what a call says and leaves of a list
 pub record Gives (c : Call) (more done : ℕ → Answer) (left : World → ℕ) (w : World) (o : List ℕ) : Type 0 where
-  pub says : afterCall w o c .answer ≡ saying more done (roomIn c (length o)) (left w)
-  pub rest : left (afterCall w o c .world) ≡ left w - roomIn c (length o)
+  pub says : afterCall w (given c o) .answer ≡ saying more done (roomIn c (length o)) (left w)
+  pub rest : left (afterCall w (given c o) .world) ≡ left w - roomIn c (length o)
 
 -- x is what it does; xs is what is left, and it gives the first of it
-pub gives-first : {X : Type 0} (c : Call) (more done : ℕ → Answer) (left : World → List X) (w : World) (o : List ℕ) (x : After) → afterCall w o c ≡ x
+pub gives-first : {X : Type 0} (c : Call) (more done : ℕ → Answer) (left : World → List X) (w : World) (o : List ℕ) (x : After) → afterCall w (given c o) ≡ x
     → x .answer ≡ cond (ltb (roomIn c (length o)) (length (left w))) more done (length (take (roomIn c (length o)) (left w)))
     → left (x .world) ≡ drop (roomIn c (length o)) (left w) → Gives c more done (λ w. length (left w)) w o
 gives-first c more done left w o x e a d = record {
@@ -93,7 +93,7 @@ ceil-le n r m h = leb-iff n (m * r) (ceil n r) m
 
 module _ (c : Call) (more done : ℕ → Answer) (left : World → ℕ) (Holds : World → Type 0)
     (gives : (w : World) (o : List ℕ) → Holds w → 1 ≤ roomIn c (length o) → Gives c more done left w o)
-    (keeps : (w : World) (o : List ℕ) → Holds w → 1 ≤ roomIn c (length o) → Holds (afterCall w o c .world)) where
+    (keeps : (w : World) (o : List ℕ) → Holds w → 1 ≤ roomIn c (length o) → Holds (afterCall w (given c o) .world)) where
   -- after k calls with room r, n being left at first
   abbrev say : ℕ → ℕ → ℕ → Answer
   say r n k = cond (leb n (suc k * r)) done more (min r (n - k * r))
@@ -107,13 +107,13 @@ module _ (c : Call) (more done : ℕ → Answer) (left : World → ℕ) (Holds :
       (let e : suc k * r ≡ k * r + r = suc-mul k r in rw e (omega arith))
 
   says-at : (r : ℕ) → 1 ≤ r → (o : List ℕ) → roomIn c (length o) ≡ r → (os : List (List ℕ)) → Rooms c r os → (w : World) (l : List Told) → Holds w
-      → afterCall (afterCalls w l (again c os) .world) o c .answer ≡ say r (left w) (length os)
+      → afterCall (afterCalls w l (again c os) .world) (given c o) .answer ≡ say r (left w) (length os)
   says-at r h o e [] k w l g = gives w o g (rw e h) .says ∙ ap (λ (m : ℕ). saying more done m (left w)) e ∙ say-first r (left w)
   says-at r h o e (x ∷ os) k w l g = let b : 1 ≤ roomIn c (length x) = rw (k .0) h in
-      says-at r h o e os (k .1) (afterCall w x c .world) (l ++ wrote (afterCall w x c)) (keeps w x g b)
+      says-at r h o e os (k .1) (afterCall w (given c x) .world) (l ++ wrote (afterCall w (given c x))) (keeps w x g b)
       ∙ ap (λ (m : ℕ). say r m (length os)) (gives w x g b .rest ∙ ap (λ (m : ℕ). left w - m) (k .0)) ∙ say-next r (left w) (length os)
 
   pub rounds : (r : ℕ) → 1 ≤ r → (o : List ℕ) → roomIn c (length o) ≡ r → (os : List (List ℕ)) → Rooms c r os → (w : World) (l : List Told) → Holds w
-      → afterCall (afterCalls w l (again c os) .world) o c .answer ≡ sayingAt more done r (left w) (length os)
+      → afterCall (afterCalls w l (again c os) .world) (given c o) .answer ≡ sayingAt more done r (left w) (length os)
   rounds r h o e os k w l g = says-at r h o e os k w l g
       ∙ ap (λ (u : Bool). cond u done more (min r (left w - length os * r))) (ceil-le (left w) r (suc (length os)) h)

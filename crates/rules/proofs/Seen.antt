@@ -5,23 +5,23 @@ use mathlib.Core.Bool.{true, false, false≢true}
 use mathlib.Core.List.{List}
 use Prim.Native.Nat.{ℕ, suc, _+_, _*_, _≤_, _<_}
 use lib.ListN.{length, length-set, getD}
+use Rattle.stamps.specs.Counting.{upTo}
+use Rattle.stamps.specs.Sources.{other}
 use Rattle.stamps.specs.declared.Source.{Source}
 use Rattle.stamps.specs.declared.Source.the-variants.{A, B}
 use Rattle.stamps.specs.declared.Item.{Item}
 use Rattle.stamps.specs.declared.Row.{Row}
 use Rattle.stamps.specs.declared.Entry.{Entry}
-use Rattle.stamps.specs.Counting.{upTo}
-use Rattle.stamps.specs.Sources.{other}
 use Rattle.sheets.specs.Layout.{rowsNeed, rowAt, putRow, probeNeed, listNo}
 use Rattle.sheets.specs.Layout.Laws.{length-putRow, length-putEntry}
-use Rattle.sheets.specs.Pairs.{Side}
-use Rattle.sheets.specs.Rows.{portionRows, flushed, lay}
-use Rattle.sheets.proofs.Laws.{length-lay, rows-lay, rows-put}
-use Rattle.sheets.proofs.Changes.{flushedSide, storedSide, newRow, notedSide, withA}
+use Rattle.sheets.specs.Rows.{portionRows, flushed}
+use Rattle.sheets.proofs.Laws.{rows-put}
 use Rattle.sheets.proofs.Noted.{list-own, list-facing}
-use Rattle.rules.specs.declared.Lengths.{Lengths}
+use Rattle.pairs.specs.Pairs.{Side}
+use Rattle.pairs.proofs.Changes.{flushedSide, storedSide, newRow, notedSide, withA}
+use Rattle.rules.specs.World.{World, same, countOf, sheetOf, closedOf, rowsOf, sideOf, seenFrom, leaving, flush, store, note, lengths, withLength, withProbeLength, Lengths}
 use Rattle.rules.specs.declared.Session.{Session}
-use Rattle.rules.specs.World.{World, same, countOf, sheetOf, closedOf, rowsOf, sideOf, seenFrom, flush, store, note, lengths}
+use Rattle.rules.proofs.Flushing.{leaving-count, flush-long, flush-rows}
 
 -- what holds of a source and of the other one holds of both
 pub both-sources : (P : Source → Type 0) (s : Source) → P s → P (other s) → (u : Source) → P u
@@ -76,8 +76,7 @@ seen-from s w w′ clock d h = λ i. record { parts = h .same-extent i .parts; a
 
 -- the extent with another length of one row sheet
 abbrev resized : Source → World → ℕ → Extent
-resized A w n = let k = lengths (w .sheets) in sized (w .session) (record { a = n; b = k .b; probe = k .probe })
-resized B w n = let k = lengths (w .sheets) in sized (w .session) (record { a = k .a; b = n; probe = k .probe })
+resized s w n = sized (w .session) (withLength s n (lengths (w .sheets)))
 
 -- a side with other rows
 abbrev rowed : ℕ → Side → (ℕ → Row) → Side
@@ -86,28 +85,27 @@ rowed n d f = record { count = n; row = f; list = d .list }
 pub flush-seen : (s : Source) (q : ℕ) (w : World) → rowsNeed (countOf w s) ≤ length (sheetOf w s)
     → Seen s w (flush s q w) (w .session .clock + portionRows (w .session .parts) q (rowsOf w s) (countOf w s)) (flushedSide (w .session .parts) q (w .session .clock) (sideOf w s))
 unfolding flush
-flush-seen s q w h = go s (rows-lay _ (countOf w s) (sheetOf w s) h) (length-lay (rows s) (countOf w s) (sheetOf w s))
+flush-seen s q w h = go s (flush-rows s q w h) (flush-long s q w) (ap (λ (n : ℕ). w .session .clock + n) (leaving-count w s q))
   where
-    rows : Source → ℕ → Row
-    rows s = flushed (w .session .parts) q (w .session .clock) (rowsOf w s)
-
-    go : (s : Source) → rowAt (lay (rows s) (countOf w s) (sheetOf w s)) ≡ upTo (countOf w s) (rows s) (rowsOf w s) → length (lay (rows s) (countOf w s) (sheetOf w s)) ≡ length (sheetOf w s)
+    go : (s : Source) → rowsOf (flush s q w) s ≡ upTo (countOf w s) (flushed (w .session .parts) q (w .session .clock) (rowsOf w s)) (rowsOf w s)
+        → length (sheetOf (flush s q w) s) ≡ length (sheetOf w s)
+        → w .session .clock + length (leaving w s q) ≡ w .session .clock + portionRows (w .session .parts) q (rowsOf w s) (countOf w s)
         → Seen s w (flush s q w) (w .session .clock + portionRows (w .session .parts) q (rowsOf w s) (countOf w s)) (flushedSide (w .session .parts) q (w .session .clock) (sideOf w s))
-    go A e n = record {
+    go A e n c = record {
       own = ap (rowed (countOf w A) (sideOf w A)) e;
       facing = refl;
       same-extent = ap (resized A w) n;
-      new-clock = refl;
+      new-clock = c;
       same-next = refl;
       same-lone = refl;
       same-closed = λ u. refl;
       same-counted = refl;
     }
-    go B e n = record {
+    go B e n c = record {
       own = ap (rowed (countOf w B) (sideOf w B)) e;
       facing = refl;
       same-extent = ap (resized B w) n;
-      new-clock = refl;
+      new-clock = c;
       same-next = refl;
       same-lone = refl;
       same-closed = λ u. refl;
@@ -162,7 +160,7 @@ note-seen s q last w h = let e : Entry = record { last = last; probe = w .sessio
           (fun-ext (list-own (w .session .parts) (w .session .counts) (w .sheets .probe) s q e (h .part) (h .counted) (h .long) (h .short) (h .free)));
       facing = ap (λ (f : ℕ → List Entry). record { count = countOf w (other s); row = rowsOf w (other s); list = f })
           (fun-ext (list-facing (w .session .parts) (w .session .counts) (w .sheets .probe) s q e (h .part) (h .counted) (h .long) (h .short) (h .free)));
-      same-extent = ap (λ (n : ℕ). sized (w .session) (record { a = length (w .sheets .a); b = length (w .sheets .b); probe = n })) (length-putEntry (listNo (w .session .parts) s q) _ e (w .sheets .probe));
+      same-extent = ap (λ (n : ℕ). sized (w .session) (withProbeLength n (lengths (w .sheets)))) (length-putEntry (listNo (w .session .parts) s q) _ e (w .sheets .probe));
       new-clock = refl;
       same-next = refl;
       same-lone = refl;

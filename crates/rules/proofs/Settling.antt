@@ -1,33 +1,27 @@
 -- A call settled: by the first check that fails, or by what it does. One law for all calls.
 -- Assumes nothing.
 use mathlib.Core.Path.{_≡_, refl}
-use mathlib.Core.Bool.{Bool, true, false, cond, not}
+use mathlib.Core.Bool.{Bool, true, false, cond}
 use mathlib.Core.List.{List, [], _∷_, _++_}
 use Prim.Native.Nat.{ℕ}
 use native.Mathlib.Omega.{arith}
-use lib.ListN.{length}
 use borrow.Author.Tests.{not-false}
 use Rattle.rules.specs.Calls.{After, after, effect, afterCall}
-use Rattle.rules.specs.Refusals.{Check, check, verdict, sessionFits, roomIn, checks}
-use Rattle.rules.specs.Fits.{Fits}
-use Rattle.rules.specs.World.{World}
-use Rattle.rules.specs.declared.Call.{Call}
+use Rattle.rules.specs.Refusals.{Check, verdict, sessionFits, checks, sheetCheck}
+use Rattle.rules.specs.World.{World, Lent}
 use Rattle.rules.specs.declared.Why.{Why}
-use Rattle.rules.specs.declared.Why.the-variants.{BadSheet}
 use Rattle.rules.specs.declared.Answer.{Answer}
 use Rattle.rules.specs.declared.Answer.the-variants.{Refused}
-use Rattle.rules.specs.declared.Lengths.{Lengths}
-use Rattle.rules.specs.declared.Session.{Session}
 use Rattle.rules.specs.declared.Verdict.the-variants.{Good, No}
-use Rattle.rules.proofs.Checks.{fits-are}
+use Rattle.rules.proofs.Checks.{fits-are, Fits}
 
-pub settle-no : (w : World) (o : List ℕ) (c : Call) (y : Why) → verdict (checks w c (roomIn c (length o))) ≡ No y → after (Refused y) w o ≡ afterCall w o c
+pub settle-no : (w : World) (c : Lent) (y : Why) → verdict (checks w c) ≡ No y → after (Refused y) w (c .out) ≡ afterCall w c
 unfolding afterCall
-settle-no w o c y e = rw e
+settle-no w c y e = rw e
 
-pub settle-good : (w : World) (o : List ℕ) (c : Call) (x : After) → verdict (checks w c (roomIn c (length o))) ≡ Good → x ≡ effect w o c → x ≡ afterCall w o c
+pub settle-good : (w : World) (c : Lent) (x : After) → verdict (checks w c) ≡ Good → x ≡ effect (c .call) w c → x ≡ afterCall w c
 unfolding afterCall
-settle-good w o c x e h = rw e h
+settle-good w c x e h = rw e h
 
 -- what holds of both answers holds of the one that is given
 pub either : (P : Answer → Type 0) (u : Bool) (more done : ℕ → Answer) (n : ℕ) → P (more n) → P (done n) → P (cond u more done n)
@@ -78,5 +72,5 @@ verdict-no (c ∷ cs) ds y h = go (c .fails) h (verdict-no cs ds y)
     go false e ih = ih e
 
 -- a call that is not refused passed number 1
-pub good-fits : (t : Session) (k : Lengths) (cs : List Check) → verdict (check (not (sessionFits t k)) BadSheet ∷ cs) ≡ Good → Fits t k
-good-fits t k cs h = fits-are t k (not-false _ (verdict-first _ cs h))
+pub passed-fits : (w : World) (cs : List Check) → verdict (sheetCheck (sessionFits w) ∷ cs) ≡ Good → Fits w
+passed-fits w cs h = fits-are w (not-false _ (verdict-first _ cs h))

@@ -4,20 +4,18 @@ use mathlib.Core.List.{List, map}
 use Prim.Native.Nat.{ℕ, _*_}
 use lib.Dec.{ltb}
 use lib.ListN.{length, take, replicate}
+use Rattle.stamps.specs.Keys.{itemOf}
+use Rattle.stamps.specs.Sources.{other}
 use Rattle.stamps.specs.declared.Source.{Source}
 use Rattle.stamps.specs.declared.Source.the-variants.{A}
 use Rattle.stamps.specs.declared.Item.{Item}
-use Rattle.stamps.specs.Keys.{itemOf}
-use Rattle.stamps.specs.Sources.{other}
-use Rattle.sheets.specs.Layout.{roomOf, singleRoom, putSingle}
-use Rattle.sheets.specs.Lones.{lonesFrom, number, single}
-use Rattle.sheets.specs.Pairs.{Pair, position, pairsFrom, tellAll, told, putFrom}
-use Rattle.sheets.specs.Rooms.{onward, putAll}
-use Rattle.sheets.specs.Rows.{portionRows, latest}
-use Rattle.sheets.specs.declared.pairs.Scope.the-variants.{All}
-use Rattle.rules.specs.World.{World, world, countOf, rowsOf, seenFrom, placeOf, itemsFrom, flush, store, note, shut, move, pass, Sheets}
-use Rattle.rules.specs.Refusals.{verdict, sizesFit, roomFor, makeRoom, arrived, idle, ran, roomIn, checks}
-use Rattle.rules.specs.declared.Lengths.{Lengths}
+use Rattle.sheets.specs.Layout.{roomOf, singleRoom, putSingle, Pair}
+use Rattle.sheets.specs.Rows.{latest}
+use Rattle.pairs.specs.Lones.{lonesFrom, number, single}
+use Rattle.pairs.specs.Pairs.{position, dueFrom, tellAll, told, putFrom}
+use Rattle.pairs.specs.Rooms.{onward, putAll}
+use Rattle.rules.specs.World.{World, world, countOf, rowsOf, seenFrom, placeOf, itemsFrom, leaving, flush, store, note, shut, move, pass, Sheets, Lent, lengths}
+use Rattle.rules.specs.Refusals.{verdict, sizesFit, roomFor, makeRoom, arrived, idle, ran, checks}
 use Rattle.rules.specs.declared.Session.{Session}
 use Rattle.rules.specs.declared.Call.{Call}
 use Rattle.rules.specs.declared.Call.the-variants.{Arrive, Evict, Run, Close, Drain, Lone}
@@ -56,7 +54,7 @@ arrives s item w o = joins s item (makeRoom (roomFor w) w) o
 
 -- "Evict flushes one named portion and answers the rows flushed"
 unfoldable pub evicts : Source → ℕ → World → List ℕ → After
-evicts s q w o = after (Flushed (portionRows (w .session .parts) q (rowsOf w s) (countOf w s))) (flush s q w) o
+evicts s q w o = after (Flushed (length (leaving w s q))) (flush s q w) o
 
 -- "each spooled row .. is tried against each memory row of the other source .. Then one entry is added, even when no pair was written"
 abbrev pub tries : Source → ℕ → World → List ℕ → After
@@ -69,7 +67,7 @@ runs s q w o = cond (idle w s q) (after (Ran 0) w o) (tries s q w o)
 
 -- the pairs that drains have still to write
 abbrev pub owed : World → List Pair
-owed w = pairsFrom All (w .session .next) (seenFrom A w)
+owed w = dueFrom (w .session .next) (seenFrom A w)
 
 -- "If any remain, the position becomes one past the last pair written and the answer is More; if none remains, it becomes (A rows) x (B rows) and the answer is Done"
 unfoldable pub drains : World → List ℕ → After
@@ -90,13 +88,13 @@ lists s w o = let t = itemsFrom s w in let room = singleRoom (length o) in let r
     (putAll putSingle 0 (map (single t) rows) o)
 
 -- each call that is not refused
-unfoldable pub effect : World → List ℕ → Call → After
-effect w o (Arrive s m) = arrives s (itemOf m) w o
-effect w o (Evict s q) = evicts s q w o
-effect w o (Run s q) = runs s q w o
-effect w o (Close s) = after Shut (shut s w) o
-effect w o Drain = drains w o
-effect w o (Lone s) = lists s w o
+unfoldable pub effect : Call → World → Lent → After
+effect (Arrive s m) w c = arrives s (itemOf m) w (c .out)
+effect (Evict s q) w c = evicts s q w (c .out)
+effect (Run s q) w c = runs s q w (c .out)
+effect (Close s) w c = after Shut (shut s w) (c .out)
+effect Drain w c = drains w (c .out)
+effect (Lone s) w c = lists s w (c .out)
 
 -- ---- every call
 
@@ -106,8 +104,8 @@ settle Good w o t = t
 settle (No y) w o t = after (Refused y) w o
 
 -- the first check that fails refuses the call; else it does what its rule says
-unfoldable pub afterCall : World → List ℕ → Call → After
-afterCall w o c = settle (verdict (checks w c (roomIn c (length o)))) w o (effect w o c)
+unfoldable pub afterCall : World → Lent → After
+afterCall w c = settle (verdict (checks w c)) w (c .out) (effect (c .call) w c)
 
 -- ---- the opening
 
@@ -126,6 +124,6 @@ fresh p m n = record {
 }
 
 -- "a refused opening, which was given none, hands back one of zeros with nothing closed"
-unfoldable pub opens : ℕ → ℕ → ℕ → Lengths → Reply
-opens p m n k =
-    cond (sizesFit p m n k) (record { answer = Opened; session = fresh p m n }) (record { answer = Refused BadSheet; session = fresh 0 0 0 })
+unfoldable pub opens : ℕ → ℕ → ℕ → Sheets → Reply
+opens p m n x =
+    cond (sizesFit p m n (lengths x)) (record { answer = Opened; session = fresh p m n }) (record { answer = Refused BadSheet; session = fresh 0 0 0 })

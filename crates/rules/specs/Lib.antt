@@ -1,7 +1,6 @@
 pub mod Answers
 pub mod Calls
 pub mod Demand3
-pub mod Fits
 pub mod Lone
 pub mod Refusals
 pub mod Rounds

@@ -5,18 +5,18 @@ use mathlib.Core.Bool.{Bool, true, false, cond, not, _||_}
 use mathlib.Core.List.{List, [], _∷_, _++_}
 use Prim.Native.Nat.{ℕ, _≤_}
 use lib.ListN.{length}
+use Rattle.stamps.specs.Counting.{bit, keep}
 use Rattle.stamps.specs.declared.Source.{Source}
 use Rattle.stamps.specs.declared.Source.the-variants.{A, B}
-use Rattle.stamps.specs.Counting.{bit, keep}
 use Rattle.sheets.specs.Layout.{Single, singleRoom, singleAt}
-use Rattle.sheets.specs.Lones.{isSingle, listings, unlisted}
-use Rattle.sheets.specs.Rooms.{readAll}
+use Rattle.pairs.specs.Lones.{isSingle, listings, unlisted}
+use Rattle.pairs.specs.Rooms.{readAll}
 use Rattle.rules.specs.Answers.{singlesOf}
 use Rattle.rules.specs.Calls.{After, afterCall}
 use Rattle.rules.specs.Demand3.{afterCalls, now}
 use Rattle.rules.specs.Refusals.{bothClosed}
-use Rattle.rules.specs.Rounds.{Lent, again, Rooms, Handed, sayingAt}
-use Rattle.rules.specs.World.{World, same, itemsFrom, Sheets}
+use Rattle.rules.specs.Rounds.{again, Rooms, Handed, sayingAt}
+use Rattle.rules.specs.World.{World, same, itemsFrom, Sheets, Lent, given}
 use Rattle.rules.specs.declared.Call.{Call}
 use Rattle.rules.specs.declared.Call.the-variants.{Arrive, Evict, Run, Close, Drain, Lone}
 use Rattle.rules.specs.declared.Answer.{Answer}
@@ -40,7 +40,7 @@ named r = readAll singleAt (r .out) 0 (singlesOf (r .answer))
 -- the rows of s that calls listed, in their order
 abbrev pub listed : Source → World → List Lent → List Single
 listed s w [] = []
-listed s w (c ∷ cs) = let r = afterCall w (c .out) (c .call) in cond (asks s (c .call)) (named r) [] ++ listed s (r .world) cs
+listed s w (c ∷ cs) = let r = afterCall w c in cond (asks s (c .call)) (named r) [] ++ listed s (r .world) cs
 
 -- ---- calls with others between them
 
@@ -57,7 +57,7 @@ heardOf r = record { answer = r .answer; out = r .out; sheets = r .world .sheets
 -- of those calls of a list that pass a test
 abbrev pub heard : (Call → Bool) → World → List Lent → List Heard
 heard u w [] = []
-heard u w (c ∷ cs) = let r = afterCall w (c .out) (c .call) in cond (u (c .call)) (heardOf r ∷ []) [] ++ heard u (r .world) cs
+heard u w (c ∷ cs) = let r = afterCall w c in cond (u (c .call)) (heardOf r ∷ []) [] ++ heard u (r .world) cs
 
 -- only the calls that pass it
 abbrev pub only : (Call → Bool) → List Lent → List Lent
@@ -82,14 +82,14 @@ module _ (start : World) (calls : List Lent) where
     -- "no row is listed twice": at most once if it is an accepted row without partner, with its key, and else never
     pub once : (s : Source) (x : Single) → listings x (listed s start calls) ≤ bit (isSingle (itemsFrom s box) x)
     -- "with n rows left, a call with room r at least 1 writes exactly min(r, n), Done exactly when none is left"
-    pub lone : bothClosed (box .session) ≡ true → (s : Source) (o : List ℕ) → 1 ≤ singleRoom (length o) → let r = afterCall box o (Lone s) in
+    pub lone : bothClosed (box .session) ≡ true → (s : Source) (o : List ℕ) → 1 ≤ singleRoom (length o) → let r = afterCall box (given (Lone s) o) in
         Handed MoreLone DoneLone (toList s) (singleRoom (length o)) (named r) (r .answer)
     -- "at call number ceil(n / r)"
     pub rounds : bothClosed (box .session) ≡ true → (s : Source) (r : ℕ) → 1 ≤ r → (os : List (List ℕ)) → Rooms (Lone s) r os → (o : List ℕ) → singleRoom (length o) ≡ r
-        → afterCall (afterCalls box [] (again (Lone s) os) .world) o (Lone s) .answer ≡ sayingAt MoreLone DoneLone r (length (toList s)) (length os)
+        → afterCall (afterCalls box [] (again (Lone s) os) .world) (given (Lone s) o) .answer ≡ sayingAt MoreLone DoneLone r (length (toList s)) (length os)
     -- "after Done the rows listed are exactly those without partner"
-    pub whole : (s : Source) (o : List ℕ) (n : ℕ) → afterCall box o (Lone s) .answer ≡ DoneLone n
-        → (x : Single) → listings x (listed s start calls ++ named (afterCall box o (Lone s))) ≡ bit (isSingle (itemsFrom s box) x)
+    pub whole : (s : Source) (o : List ℕ) (n : ℕ) → afterCall box (given (Lone s) o) .answer ≡ DoneLone n
+        → (x : Single) → listings x (listed s start calls ++ named (afterCall box (given (Lone s) o))) ≡ bit (isSingle (itemsFrom s box) x)
     -- drains, and all other calls, give "the same answers, pairs and sheets" with and without lone calls between them
     pub others-same : (cs : List Lent) → heard others box cs ≡ heard others box (only others cs)
     -- and so do the lone calls of a source, once both are closed, whatever is asked between them

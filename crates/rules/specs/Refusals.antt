@@ -4,21 +4,19 @@ use mathlib.Core.List.{List, [], _∷_, _++_}
 use Prim.Native.Nat.{ℕ, zero, suc, _+_, _*_}
 use lib.Dec.{ltb, leb, eqb}
 use lib.ListN.{length, getD}
+use Rattle.stamps.specs.Counting.{tally, span, allOf}
+use Rattle.stamps.specs.Keys.{inRange, itemOf}
+use Rattle.stamps.specs.Sources.{other}
 use Rattle.stamps.specs.declared.Source.{Source}
 use Rattle.stamps.specs.declared.Source.the-variants.{A, B}
 use Rattle.stamps.specs.declared.Message.{Message}
 use Rattle.stamps.specs.declared.Item.{Item}
-use Rattle.stamps.specs.Counting.{tally, allOf}
-use Rattle.stamps.specs.Keys.{inRange, itemOf}
-use Rattle.stamps.specs.Sources.{other}
-use Rattle.sheets.specs.Layout.{rowsNeed, probeNeed, roomOf, singleRoom}
+use Rattle.sheets.specs.Layout.{rowsNeed, probeNeed, roomOf, singleRoom, Pair}
 use Rattle.sheets.specs.Lists.{probedAt}
-use Rattle.sheets.specs.Pairs.{Pair, arrivalPairs, wantedPairs}
-use Rattle.sheets.specs.Rows.{memoryRows, spooled, victim}
-use Rattle.sheets.specs.declared.pairs.Scope.the-variants.{Portion}
+use Rattle.sheets.specs.Rows.{spooled, spooledRows, rowsInMemory, Held, heldIn, victim}
 use Rattle.sheets.specs.declared.rows.Victim.{Victim}
-use Rattle.rules.specs.World.{World, pick, countOf, rowsOf, sideOf, seenFrom, flush, lengths}
-use Rattle.rules.specs.declared.Lengths.{Lengths}
+use Rattle.pairs.specs.Pairs.{arrivalPairs, tried}
+use Rattle.rules.specs.World.{World, Lent, Lengths, pick, countOf, rowsOf, sideOf, seenFrom, flush, lengths}
 use Rattle.rules.specs.declared.Places.{Places}
 use Rattle.rules.specs.declared.Session.{Session}
 use Rattle.rules.specs.declared.Call.{Call}
@@ -75,21 +73,25 @@ abbrev pub countsFit : List ℕ → ℕ → Bool
 countsFit counts zero = true
 countsFit counts (suc n) = countsFit counts n && leb (getD counts n 0) 32
 
--- number 1 of every call on a record
-unfoldable pub sessionFits : Session → Lengths → Bool
-sessionFits t k =
-    sizesFit (t .parts) (t .slots) (t .limit) k
+-- number 1 of every call but the opening
+unfoldable pub sessionFits : World → Bool
+sessionFits w = let t = w .session in
+    sizesFit (t .parts) (t .slots) (t .limit) (lengths (w .sheets))
     && (numbersFit (t .limit) (t .clock) (t .a .rows) (t .b .rows) (t .next) (t .lone) && countsFit (t .counts) (2 * t .parts))
 
 -- ---- an arrival
 
+-- what a source has in memory
+abbrev pub heldOf : World → Source → Held
+heldOf w s = heldIn (w .session .parts) (rowsOf w s) (countOf w s)
+
 -- "If M or more rows are in memory"
 abbrev pub full : World → Bool
-full w = leb (w .session .slots) (memoryRows (rowsOf w A) (countOf w A) + memoryRows (rowsOf w B) (countOf w B))
+full w = leb (w .session .slots) (heldOf w A .rows + heldOf w B .rows)
 
 -- the portion to flush
 abbrev pub victimOf : World → Victim
-victimOf w = victim (w .session .parts) (rowsOf w A) (countOf w A) (rowsOf w B) (countOf w B)
+victimOf w = victim (w .session .parts) (heldOf w A) (heldOf w B)
 
 -- what has to be flushed for one more row
 unfoldable pub roomFor : World → Room
@@ -102,7 +104,7 @@ makeRoom (Flush s q) w = flush s q w
 
 -- the pairs of an arrival in a box that has room
 abbrev pub arrived : Source → Item → World → List Pair
-arrived s item w = arrivalPairs (countOf w s) item (rowsOf w (other s)) (countOf w (other s))
+arrived s item w = arrivalPairs (countOf w s) item (rowsOf w (other s)) (span 0 (countOf w (other s)))
 
 -- ---- a run
 
@@ -110,37 +112,39 @@ arrived s item w = arrivalPairs (countOf w s) item (rowsOf w (other s)) (countOf
 abbrev pub idle : World → Source → ℕ → Bool
 idle w s q = eqb (tally (λ i. spooled (w .session .parts) q (rowsOf w s i)) (countOf w s)) 0 || probedAt (w .session .clock) (sideOf w s .list q)
 
--- the pairs of a run
+-- the pairs of a run: "each spooled row, ascending, is tried against each memory row of the other source, ascending"
 abbrev pub ran : Source → ℕ → World → List Pair
-ran s q w = wantedPairs (Portion q) (seenFrom s w)
+ran s q w = tried (seenFrom s w) (spooledRows (w .session .parts) q (rowsOf w s) (countOf w s)) (rowsInMemory (rowsOf w (other s)) (countOf w (other s)))
 
--- ---- the table, read from the top, for each call with the room of its output
+-- ---- the table, read from the top: number 1, and then what each call has of it
+
+-- number 1, by what its test found
+abbrev pub sheetCheck : Bool → Check
+sheetCheck fits = check (not fits) BadSheet
 
 -- both sources are closed
 abbrev pub bothClosed : Session → Bool
 bothClosed t = t .a .closed && t .b .closed
 
--- a named portion: numbers 1, 3 and 4
-abbrev pub portionChecks : Session → ℕ → Lengths → List Check
-portionChecks t q k = check (not (sessionFits t k)) BadSheet ∷ check (leb (t .parts) q) BadPart ∷ check (bothClosed t) Closed ∷ []
+-- a named portion: numbers 3 and 4
+abbrev pub portionChecks : Session → ℕ → List Check
+portionChecks t q = check (leb (t .parts) q) BadPart ∷ check (bothClosed t) Closed ∷ []
 
--- a new row, but for its pairs: numbers 1, 2, 4 and 5
-abbrev pub rowChecks : Session → Source → Message → Lengths → List Check
-rowChecks t s m k =
-    check (not (sessionFits t k)) BadSheet
-    ∷ check (not (inRange m)) BadKey
+-- a new row, but for its pairs: numbers 2, 4 and 5
+abbrev pub rowChecks : Session → Source → Message → List Check
+rowChecks t s m =
+    check (not (inRange m)) BadKey
     ∷ check (pick s (t .a) (t .b) .closed) Closed
     ∷ check (leb (t .limit) (pick s (t .a) (t .b) .rows)) SheetFull
     ∷ []
 
--- a close: numbers 1 and 4
-abbrev pub closeChecks : Session → Source → Lengths → List Check
-closeChecks t s k = check (not (sessionFits t k)) BadSheet ∷ check (pick s (t .a) (t .b) .closed) Closed ∷ []
+-- a close: number 4
+abbrev pub closeChecks : Session → Source → List Check
+closeChecks t s = check (pick s (t .a) (t .b) .closed) Closed ∷ []
 
--- a drain or a lone call: numbers 1, 7 and 8
-abbrev pub drainChecks : Session → ℕ → Lengths → List Check
-drainChecks t room k =
-    check (not (sessionFits t k)) BadSheet ∷ check (not (bothClosed t)) StillOpen ∷ check (eqb room 0) (RoomShort 1) ∷ []
+-- a drain or a lone call: numbers 7 and 8
+abbrev pub drainChecks : Session → ℕ → List Check
+drainChecks t room = check (not (bothClosed t)) StillOpen ∷ check (eqb room 0) (RoomShort 1) ∷ []
 
 -- the pairs have to fit the room
 abbrev pub roomCheck : ℕ → ℕ → Check
@@ -154,23 +158,16 @@ tryChecks w s q room = check (leb 32 (length (sideOf w s .list q))) ListFull ∷
 abbrev pub runChecks : World → Source → ℕ → ℕ → List Check
 runChecks w s q room = cond (idle w s q) [] (tryChecks w s q room)
 
--- the room of an output of so many words: three words a pair, two a row without partner
-abbrev pub roomIn : Call → ℕ → ℕ
-roomIn (Arrive s m) words = roomOf words
-roomIn (Evict s q) words = roomOf words
-roomIn (Run s q) words = roomOf words
-roomIn (Close s) words = roomOf words
-roomIn Drain words = roomOf words
-roomIn (Lone s) words = singleRoom words
+-- what each call has of the table after number 1
+unfoldable pub ownChecks : Call → World → Lent → List Check
+ownChecks (Arrive s m) w c =
+    rowChecks (w .session) s m ++ (roomCheck (roomOf (length (c .out))) (length (arrived s (itemOf m) (makeRoom (roomFor w) w))) ∷ [])
+ownChecks (Evict s q) w c = portionChecks (w .session) q
+ownChecks (Run s q) w c = portionChecks (w .session) q ++ runChecks w s q (roomOf (length (c .out)))
+ownChecks (Close s) w c = closeChecks (w .session) s
+ownChecks Drain w c = drainChecks (w .session) (roomOf (length (c .out)))
+ownChecks (Lone s) w c = drainChecks (w .session) (singleRoom (length (c .out)))
 
--- every call, with the room of its output
-unfoldable pub checks : World → Call → ℕ → List Check
-checks w (Arrive s m) room =
-    rowChecks (w .session) s m (lengths (w .sheets))
-    ++ (roomCheck room (length (arrived s (itemOf m) (makeRoom (roomFor w) w))) ∷ [])
-checks w (Evict s q) room = portionChecks (w .session) q (lengths (w .sheets))
-checks w (Run s q) room =
-    portionChecks (w .session) q (lengths (w .sheets)) ++ runChecks w s q room
-checks w (Close s) room = closeChecks (w .session) s (lengths (w .sheets))
-checks w Drain room = drainChecks (w .session) room (lengths (w .sheets))
-checks w (Lone s) room = drainChecks (w .session) room (lengths (w .sheets))
+-- every call
+abbrev pub checks : World → Lent → List Check
+checks w c = sheetCheck (sessionFits w) ∷ ownChecks (c .call) w c

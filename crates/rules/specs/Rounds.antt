@@ -5,19 +5,25 @@ use mathlib.Core.List.{List, [], _∷_}
 use Prim.Native.Nat.{ℕ, suc, _+_, _*_, _-_, _/_, min}
 use lib.Dec.{leb}
 use lib.ListN.{length, take}
-use Rattle.rules.specs.Refusals.{roomIn}
+use Rattle.sheets.specs.Layout.{roomOf, singleRoom}
+use Rattle.rules.specs.World.{Lent, given}
 use Rattle.rules.specs.declared.Call.{Call}
+use Rattle.rules.specs.declared.Call.the-variants.{Arrive, Evict, Run, Close, Drain, Lone}
 use Rattle.rules.specs.declared.Answer.{Answer}
 
--- a call, with the output that it is lent
-pub record Lent : Type 0 where
-  pub call : Call
-  pub out : List ℕ
+-- the room of a call in an output of so many words: three words a pair, two a row without partner
+abbrev pub roomIn : Call → ℕ → ℕ
+roomIn (Arrive s m) words = roomOf words
+roomIn (Evict s q) words = roomOf words
+roomIn (Run s q) words = roomOf words
+roomIn (Close s) words = roomOf words
+roomIn Drain words = roomOf words
+roomIn (Lone s) words = singleRoom words
 
 -- the same call again and again, each time with an output of its own
 abbrev pub again : Call → List (List ℕ) → List Lent
 again c [] = []
-again c (o ∷ os) = record { call = c; out = o } ∷ again c os
+again c (o ∷ os) = given c o ∷ again c os
 
 -- each of the outputs has room r for it
 abbrev pub Rooms : Call → ℕ → List (List ℕ) → Type 0

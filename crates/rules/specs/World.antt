@@ -1,20 +1,20 @@
--- The box in words: a session record, two row sheets and a probe sheet, and what may change in them.
+-- The box in words: a session record and the sheets that calls are lent, what a call is given, and what may change.
 use mathlib.Core.Bool.{Bool, true, false}
-use mathlib.Core.List.{List}
+use mathlib.Core.List.{List, []}
 use Prim.Native.Nat.{ℕ, suc, _+_}
 use lib.ListN.{length, getD, set}
+use Rattle.stamps.specs.Sources.{other}
 use Rattle.stamps.specs.declared.Source.{Source}
 use Rattle.stamps.specs.declared.Source.the-variants.{A, B}
 use Rattle.stamps.specs.declared.Item.{Item}
 use Rattle.stamps.specs.declared.Row.{Row}
-use Rattle.stamps.specs.Sources.{other}
 use Rattle.sheets.specs.Layout.{rowAt, putRow, listNo, putEntry}
 use Rattle.sheets.specs.Lists.{listOf}
-use Rattle.sheets.specs.Rows.{portionRows, flushed, lay}
-use Rattle.sheets.specs.Lones.{Items, itemsIn}
-use Rattle.sheets.specs.Pairs.{Side, Table}
+use Rattle.sheets.specs.Rows.{hotRows, leave}
+use Rattle.pairs.specs.Lones.{Items, itemsIn}
+use Rattle.pairs.specs.Pairs.{Side, Table}
+use Rattle.rules.specs.declared.Call.{Call}
 use Rattle.rules.specs.declared.Feed.{Feed}
-use Rattle.rules.specs.declared.Lengths.{Lengths}
 use Rattle.rules.specs.declared.Places.{Places}
 use Rattle.rules.specs.declared.Session.{Session}
 
@@ -24,15 +24,21 @@ pub record Sheets : Type 0 where
   pub b : List ℕ
   pub probe : List ℕ
 
--- these sheets
-abbrev pub lent : List ℕ → List ℕ → List ℕ → Sheets
-lent a b probe = record { a = a; b = b; probe = probe }
+-- these sheets, as one value
+abbrev pub bundle : List ℕ → List ℕ → List ℕ → Sheets
+bundle a b probe = record { a = a; b = b; probe = probe }
 
--- their lengths
+-- how long each of them is
+pub record Lengths : Type 0 where
+  pub a : ℕ
+  pub b : ℕ
+  pub probe : ℕ
+
+-- of these sheets
 abbrev pub lengths : Sheets → Lengths
 lengths x = record { a = length (x .a); b = length (x .b); probe = length (x .probe) }
 
--- all that a call is given but its arguments and its output
+-- all that stays from call to call
 pub record World : Type 0 where
   pub session : Session
   pub sheets : Sheets
@@ -40,6 +46,15 @@ pub record World : Type 0 where
 -- a record and sheets
 abbrev pub world : Session → Sheets → World
 world t x = record { session = t; sheets = x }
+
+-- all that a call is given besides: which call it is, with its arguments, and its output
+pub record Lent : Type 0 where
+  pub call : Call
+  pub out : List ℕ
+
+-- a call and its output
+abbrev pub given : Call → List ℕ → Lent
+given c o = record { call = c; out = o }
 
 -- ---- one source of the two
 
@@ -137,11 +152,14 @@ withProbe l x = record { a = x .a; b = x .b; probe = l }
 
 -- ---- what the calls are made of: each says which fields and which words it changes
 
+-- the rows that a flush of a portion moves
+abbrev pub leaving : World → Source → ℕ → List ℕ
+leaving w s q = hotRows (w .session .parts) q (rowsOf w s) (countOf w s)
+
 -- flush of a portion: one clock tick a row
 unfoldable pub flush : Source → ℕ → World → World
 flush s q w = let t = w .session in
-    world (withClock (t .clock + portionRows (t .parts) q (rowsOf w s) (countOf w s)) t)
-    (withSheet s (lay (flushed (t .parts) q (t .clock) (rowsOf w s)) (countOf w s) (sheetOf w s)) (w .sheets))
+    world (withClock (t .clock + length (leaving w s q)) t) (withSheet s (leave (t .clock) (leaving w s q) (sheetOf w s)) (w .sheets))
 
 -- "the clock goes up by one and the row is stored with ATS = clock, DTS 0"
 unfoldable pub store : Source → Item → World → World
@@ -165,3 +183,22 @@ move k w = world (withNext k (w .session)) (w .sheets)
 -- the position of a source's lone calls moved
 unfoldable pub pass : Source → ℕ → World → World
 pass s k w = world (withLone (withPlace s k (w .session .lone)) (w .session)) (w .sheets)
+
+-- ---- for the proofs alone
+
+-- sheets of no words, where any will do
+abbrev pub noSheets : Sheets
+noSheets = bundle [] [] []
+
+-- another call, lent the same
+abbrev pub withCall : Call → Lent → Lent
+withCall k c = record { call = k; out = c .out }
+
+-- another length of one source's sheet
+abbrev pub withLength : Source → ℕ → Lengths → Lengths
+withLength A n k = record { a = n; b = k .b; probe = k .probe }
+withLength B n k = record { a = k .a; b = n; probe = k .probe }
+
+-- and of the probe sheet
+abbrev pub withProbeLength : ℕ → Lengths → Lengths
+withProbeLength n k = record { a = k .a; b = k .b; probe = n }

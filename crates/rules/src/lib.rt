@@ -27,13 +27,6 @@ pub struct Session {
     pub lone: Places,
 }
 
-// The words of each sheet that a call is lent.
-pub struct Lengths {
-    pub a: usize,
-    pub b: usize,
-    pub probe: usize,
-}
-
 pub enum Call {
     Arrive(Source, Message),
     Evict(Source, u32),

@@ -1,36 +1,36 @@
 -- What the layers above may know of the sheets: what is laid is read back, and every other word stays.
 -- By induction on the rows laid. Assumes nothing.
 use mathlib.Core.Path.{_≡_, refl, sym, ap, ap₂, _∙_, fun-ext}
-use mathlib.Core.Bool.{Bool, true, false, cond, not, _&&_, and-true, and-false, true≢false}
+use mathlib.Core.Bool.{Bool, true, false, cond, not, _&&_, true≢false}
 use mathlib.Core.List.{List, [], _∷_, _++_}
 use Prim.Native.Nat.{ℕ, zero, suc, _+_, _*_, _≤_, _<_, max}
-use native.Mathlib.Nat.{add-zero, zero-add, suc-mul, le-trans, mul-le-mul-left, mul-le-mul-right}
+use native.Mathlib.Nat.{add-zero}
 use native.Mathlib.Omega.{arith}
-use lib.Dec.{ltb, leb, eqb, leb·zero}
-use lib.ListN.{length, getD, length-append, length-map}
+use lib.Dec.{ltb, eqb}
+use lib.ListN.{length, getD, length-append}
 use borrow.Author.Tests.{lt-ltb, eqb-true, eq-eqb, ne-eqb}
 use Rattle.stamps.specs.declared.Source.{Source}
 use Rattle.stamps.specs.declared.Source.the-variants.{A, B}
-use Rattle.stamps.specs.declared.Item.{Item}
 use Rattle.stamps.specs.declared.Row.{Row}
 use Rattle.stamps.specs.declared.Entry.{Entry}
-use Rattle.stamps.specs.Counting.{bit, tally, span, keep, upTo}
-use Rattle.stamps.specs.Counting.Laws.{tests, one-more, eqb-ne, tally-le, length-keep, length-span}
-use Rattle.stamps.specs.Keys.{itemsMatch, partOf}
-use Rattle.stamps.specs.Keys.Laws.{match-part}
+use Rattle.stamps.specs.Counting.{bit, tally, upTo}
+use Rattle.stamps.specs.Counting.Laws.{tests, one-more, eqb-ne, tally-le, kept-last, length-kept}
+use Rattle.stamps.specs.Keys.{partOf}
 use Rattle.stamps.specs.Stamps.{inMemory, stamp}
-use Rattle.sheets.specs.Layout.{rowsNeed, rowAt, putRow, probeNeed, listNo, listNeed, entryAt, putEntry, pairsNeed, pairAt, putPair, singlesNeed, singleAt, putSingle}
-use Rattle.sheets.specs.Layout.Laws.{length-putRow, row-same, row-other, row-beyond, entry-same, entry-other, length-putPair, pair-same, pair-other, length-putSingle, single-same, single-other}
+use Rattle.sheets.specs.Layout.{rowsNeed, rowAt, putRow, probeNeed, listNo, listNeed, entryAt, putEntry}
+use Rattle.sheets.specs.Layout.Laws.{length-putRow, row-same, row-other, row-beyond, entry-same, entry-other, row-again}
 use Rattle.sheets.specs.Lists.{entries, listOf, probedAt}
 use Rattle.sheets.specs.declared.lists.ProbeList.{ProbeList}
-use Rattle.sheets.specs.Pairs.{Pair, Table, across, down, every, position, wanted, met, arrivalPairs, wantedPairs, pairsFrom}
-use Rattle.sheets.specs.declared.pairs.Scope.{Scope}
-use Rattle.sheets.proofs.Handing.{Words}
-use Rattle.sheets.specs.Rows.{hot, spooled, memoryRows, portionRows, latest, flushed, lay}
+use Rattle.sheets.specs.Rows.{hot, spooled, memoryRows, portionRows, latest, flushed, leave, hotRows}
 
 -- ---- rows laid over a sheet
 
-pub length-lay : (f : ℕ → Row) (n : ℕ) (l : List ℕ) → length (lay f n l) ≡ length l
+-- the first n rows of f laid over a sheet, every other word as it was
+unfoldable pub lay : (ℕ → Row) → ℕ → List ℕ → List ℕ
+lay f zero l = l
+lay f (suc n) l = putRow n (f n) (lay f n l)
+
+length-lay : (f : ℕ → Row) (n : ℕ) (l : List ℕ) → length (lay f n l) ≡ length l
 unfolding lay
 length-lay f zero l = refl
 length-lay f (suc n) l = length-putRow n (f n) (lay f n l) ∙ length-lay f n l
@@ -42,13 +42,13 @@ row-above f zero l i h = refl
 row-above f (suc n) l i h = row-other (lay f n l) n (f n) i (omega arith) ∙ row-above f n l i (omega arith)
 
 -- and so does every word beyond
-pub lay-beyond : (f : ℕ → Row) (n : ℕ) (l : List ℕ) (p : ℕ) → rowsNeed n ≤ p → getD (lay f n l) p 0 ≡ getD l p 0
+lay-beyond : (f : ℕ → Row) (n : ℕ) (l : List ℕ) (p : ℕ) → rowsNeed n ≤ p → getD (lay f n l) p 0 ≡ getD l p 0
 unfolding lay
 lay-beyond f zero l p h = refl
 lay-beyond f (suc n) l p h = row-beyond (lay f n l) n (f n) p h ∙ lay-beyond f n l p (omega arith)
 
 -- what is laid is read back
-pub rows-lay : (f : ℕ → Row) (n : ℕ) (l : List ℕ) → rowsNeed n ≤ length l → rowAt (lay f n l) ≡ upTo n f (rowAt l)
+rows-lay : (f : ℕ → Row) (n : ℕ) (l : List ℕ) → rowsNeed n ≤ length l → rowAt (lay f n l) ≡ upTo n f (rowAt l)
 unfolding lay
 rows-lay f n l h = fun-ext λ i. go i n h (ltb i n) refl
   where
@@ -58,6 +58,44 @@ rows-lay f n l h = fun-ext λ i. go i n h (ltb i n) refl
     go i (suc n) b true e =
         one-more (λ k. rowAt (lay f (suc n) l) k ≡ f k) n (λ k c. row-other (lay f n l) n (f n) k (omega arith) ∙ go k n (omega arith) true (lt-ltb k n c))
         (row-same (lay f n l) n (f n) (rw length-lay b)) i (omega (arith, tests))
+
+-- rows that leave one after the other, and more after them
+leave-append : (clock : ℕ) (is js : List ℕ) (l : List ℕ) → leave clock (is ++ js) l ≡ leave (clock + length is) js (leave clock is l)
+unfolding leave
+leave-append clock [] js l = rw add-zero
+leave-append clock (i ∷ is) js l = let e : suc clock + length is ≡ clock + suc (length is) = omega arith in rw (leave-append (suc clock) is js (putRow i (stamp (suc clock) (rowAt l i)) l), e)
+
+-- where a portion's memory rows leave, the rows after the flush are laid over those before it
+pub leave-is : (parts q clock : ℕ) (l : List ℕ) (n : ℕ) → leave clock (hotRows parts q (rowAt l) n) l ≡ lay (flushed parts q clock (rowAt l)) n l
+unfolding leave lay
+leave-is parts q clock l zero = refl
+leave-is parts q clock l (suc n) =
+    ap (λ (is : List ℕ). leave clock is l) (kept-last (λ i. hot parts q (rowAt l i)) n)
+    ∙ leave-append clock (hotRows parts q (rowAt l) n) _ l
+    ∙ rw (leave-is parts q clock l n, length-kept (λ i. hot parts q (rowAt l i)) n) (go (hot parts q (rowAt l n)))
+  where
+    before : List ℕ
+    before = lay (flushed parts q clock (rowAt l)) n l
+
+    ahead : rowAt before n ≡ rowAt l n
+    ahead = row-above (flushed parts q clock (rowAt l)) n l n (omega arith)
+
+    go : (u : Bool) → leave (clock + portionRows parts q (rowAt l) n) (cond u (n ∷ []) []) before
+        ≡ putRow n (cond u (stamp (clock + (portionRows parts q (rowAt l) n + bit u)) (rowAt l n)) (rowAt l n)) before
+    go true = let e : clock + (portionRows parts q (rowAt l) n + 1) ≡ suc (clock + portionRows parts q (rowAt l) n) = omega arith in rw (ahead, e)
+    go false = rw (← ahead) (sym (row-again before n))
+
+pub rows-leave : (parts q clock : ℕ) (l : List ℕ) (n : ℕ) → rowsNeed n ≤ length l
+    → rowAt (leave clock (hotRows parts q (rowAt l) n) l) ≡ upTo n (flushed parts q clock (rowAt l)) (rowAt l)
+rows-leave parts q clock l n h = ap rowAt (leave-is parts q clock l n) ∙ rows-lay (flushed parts q clock (rowAt l)) n l h
+
+pub leave-beyond : (parts q clock : ℕ) (l : List ℕ) (n p : ℕ) → rowsNeed n ≤ p → getD (leave clock (hotRows parts q (rowAt l) n) l) p 0 ≡ getD l p 0
+leave-beyond parts q clock l n p h = ap (λ (m : List ℕ). getD m p 0) (leave-is parts q clock l n) ∙ lay-beyond (flushed parts q clock (rowAt l)) n l p h
+
+pub length-leave : (clock : ℕ) (is l : List ℕ) → length (leave clock is l) ≡ length l
+unfolding leave
+length-leave clock [] l = refl
+length-leave clock (i ∷ is) l = length-leave (suc clock) is _ ∙ length-putRow i _ l
 
 -- one row written
 pub rows-put : (l : List ℕ) (n : ℕ) (x : Row) → rowsNeed (suc n) ≤ length l → rowAt (putRow n x l) ≡ (λ i. cond (eqb i n) x (rowAt l i))
@@ -111,53 +149,6 @@ pub entries-new : (probe : List ℕ) (k n : ℕ) (x : Entry) → n < 32 → list
 unfolding entries
 entries-new probe k n x h b = ap₂ (λ (es : List Entry) (e : Entry). es ++ (e ∷ [])) (entries-other probe k n x k n (λ g. omega arith) h (omega arith)) (entry-same probe k n x b)
 
--- ---- outputs
-
-pub pair-words : Words pairAt putPair pairsNeed
-pair-words = record { grows = λ m n h. omega arith; long = length-putPair; same = pair-same; other = pair-other }
-
-pub single-words : Words singleAt putSingle singlesNeed
-single-words = record { grows = λ m n h. omega arith; long = length-putSingle; same = single-same; other = single-other }
-
-pub length-across : (i j m : ℕ) → length (across i j m) ≡ m
-length-across i j m = length-map (span j m) (λ b. record { a = i; b = b }) ∙ length-span j m
-
-pub length-down : (i n m : ℕ) → length (down i n m) ≡ n * m
-length-down i zero m = omega arith
-length-down i (suc n) m = rw (length-append, length-across i 0 m, length-down (suc i) n m, suc-mul) (omega arith)
-
--- no more pairs than rows by rows
-pub wanted-few : (scope : Scope) (t : Table) → length (wantedPairs scope t) ≤ t .a .count * t .b .count
-unfolding wantedPairs
-wanted-few scope t = omega (arith, length-keep (wanted scope t) (every t), length-down 0 (t .a .count) (t .b .count))
-
-pub product-few : (n m : ℕ) → n ≤ 4096 → m ≤ 4096 → n * m ≤ 16777216
-product-few n m h b = le-trans (mul-le-mul-left n b) (mul-le-mul-right 4096 h)
-
--- ---- the counts that are answered are the lengths of the lists
-
-length-met : (i : ℕ) (item : Item) (g : ℕ → Row) (j m : ℕ) → tally (λ k. met item (g k)) j + length (keep (λ p. met item (g (p .b))) (across i j m)) ≡ tally (λ k. met item (g k)) (j + m)
-length-met i item g j zero = rw (add-zero j) (omega arith)
-length-met i item g j (suc m) = let s : j + suc m ≡ suc j + m = omega arith in rw s (go (met item (g j)) refl (length-met i item g (suc j) m))
-  where
-    go : (u : Bool) → met item (g j) ≡ u → tally (λ k. met item (g k)) j + bit (met item (g j)) + length (keep (λ p. met item (g (p .b))) (across i (suc j) m)) ≡ tally (λ k. met item (g k)) (suc j + m)
-        → tally (λ k. met item (g k)) j + length (cond u (record { a = i; b = j } ∷ keep (λ p. met item (g (p .b))) (across i (suc j) m)) (keep (λ p. met item (g (p .b))) (across i (suc j) m))) ≡ tally (λ k. met item (g k)) (suc j + m)
-    go true e ih = omega (arith, rw e at ih)
-    go false e ih = omega (arith, rw e at ih)
-
-pub length-arrival : (i : ℕ) (item : Item) (g : ℕ → Row) (m : ℕ) → length (arrivalPairs i item g m) ≡ tally (λ k. met item (g k)) m
-unfolding arrivalPairs
-length-arrival i item g m = sym (zero-add _) ∙ length-met i item g 0 m ∙ ap (tally (λ k. met item (g k))) (zero-add m)
-
--- from position 0 on: all
-pub pairs-from-start : (scope : Scope) (t : Table) → pairsFrom scope 0 t ≡ wantedPairs scope t
-unfolding pairsFrom
-pairs-from-start scope t = go (wantedPairs scope t)
-  where
-    go : (ps : List Pair) → keep (λ p. leb 0 (position t p)) ps ≡ ps
-    go [] = refl
-    go (p ∷ ps) = rw (leb·zero (position t p), go ps)
-
 -- a portion has no spooled row exactly if its largest DTS is 0
 pub latest-none : (parts q : ℕ) (f : ℕ → Row) (n : ℕ) → eqb (latest parts q f n) 0 ≡ eqb (tally (λ i. spooled parts q (f i)) n) 0
 latest-none parts q f n = go (eqb (tally (λ i. spooled parts q (f i)) n) 0) refl
@@ -206,27 +197,6 @@ flushed-memory parts q clock f i = go (inMemory (f i)) (eqb (partOf parts (f i .
     go true true e g = ne-eqb (clock + (portionRows parts q f i + 1)) 0 (omega arith)
     go true false e g = e
     go false v e g = e
-
--- ---- an arrival after a flush
-
--- after a flush of the item's own partition no row that matches is in memory; a flush of another one changes nothing for it
-module _ (parts q clock : ℕ) (item : Item) (f : ℕ → Row) (i : ℕ) where
-  met-flushed : met item (flushed parts q clock f i) ≡ (itemsMatch item (f i .item) && (inMemory (f i) && not (eqb (partOf parts (f i .item)) q)))
-  met-flushed = ap₂ (λ (x : Item) (u : Bool). itemsMatch item x && u) (flushed-item parts q clock f i) (flushed-memory parts q clock f i)
-
-  pub met-gone : partOf parts item ≡ q → met item (flushed parts q clock f i) ≡ false
-  met-gone e = met-flushed ∙ go (itemsMatch item (f i .item)) refl
-    where
-      go : (u : Bool) → itemsMatch item (f i .item) ≡ u → (u && (inMemory (f i) && not (eqb (partOf parts (f i .item)) q))) ≡ false
-      go true m = rw (eq-eqb (partOf parts (f i .item)) q (sym (match-part parts item (f i .item) m) ∙ e), and-false)
-      go false m = refl
-
-  pub met-kept : (partOf parts item ≡ q → ⊥) → met item (flushed parts q clock f i) ≡ met item (f i)
-  met-kept e = met-flushed ∙ go (itemsMatch item (f i .item)) refl
-    where
-      go : (u : Bool) → itemsMatch item (f i .item) ≡ u → (u && (inMemory (f i) && not (eqb (partOf parts (f i .item)) q))) ≡ (u && inMemory (f i))
-      go true m = rw (ne-eqb (partOf parts (f i .item)) q (λ d. e (match-part parts item (f i .item) m ∙ d)), and-true)
-      go false m = refl
 
 -- no more memory rows than rows
 pub memory-few : (f : ℕ → Row) (n r : ℕ) → r ≡ memoryRows f n → r ≤ n

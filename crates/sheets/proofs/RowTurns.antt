@@ -10,31 +10,16 @@ use lib.Dec.{eqb}
 use lib.ListN.{length, getD, set, replicate}
 use borrow.Author.Tests.{lt-ltb, le-ltb, eqb-true, eqb-false, eq-eqb, ne-eqb}
 use Rattle.stamps.specs.declared.Row.{Row}
-use Rattle.stamps.specs.Counting.{tally, values}
-use Rattle.stamps.specs.Counting.Laws.{tally-le, values-at, values-cong, set-values}
+use Rattle.stamps.specs.Counting.{values}
+use Rattle.stamps.specs.Counting.Laws.{tally-le, values-at, values-cong, set-values, length-kept}
 use Rattle.stamps.specs.Keys.{partOf}
 use Rattle.stamps.specs.Stamps.{inMemory, stamp}
 use Rattle.sheets.specs.Layout.{rowAt, putRow}
 use Rattle.sheets.specs.Layout.Laws.{length-putRow, row-again}
-use Rattle.sheets.specs.Rows.{hot, spooled, portionRows, latest, flushed, lay, firstLargest, largestPart}
-use Rattle.sheets.proofs.Laws.{row-above}
+use Rattle.sheets.specs.Rows.{hot, spooled, portionRows, latest, flushed, Held, firstLargest, largestPart, Flushes}
+use Rattle.sheets.proofs.Laws.{row-above, leave-is, lay}
 use Rattle.sheets.proofs.Victim.{first-within}
-
--- ---- a loop that counts
-
-pub record Counted (t : ℕ → Bool) (i count : ℕ) : Type 0 where
-  pub few : count ≤ i
-  pub sum : count ≡ tally t i
-
-pub counted-first : (t : ℕ → Bool) → Counted t 0 0
-counted-first t = record { few = omega arith; sum = refl }
-
-module _ (t : ℕ → Bool) (i count : ℕ) (h : Counted t i count) where
-  pub counted-one : t i ≡ true → Counted t (i + 1) (count + 1)
-  counted-one e = record { few = omega arith; sum = rw (add-one i, e) (omega arith) }
-
-  pub counted-none : t i ≡ false → Counted t (i + 1) count
-  counted-none e = record { few = omega arith; sum = rw (add-one i, e) (omega arith) }
+use Rattle.sheets.proofs.Counted.{Counted, counted-first, counted-one, counted-none}
 
 -- ---- a flush
 
@@ -70,6 +55,13 @@ module _ (parts q clock : ℕ) (l : List ℕ) (i done : ℕ) (l′ : List ℕ) (
         long = h .long;
         sheet = rw (add-one i, g, ← h .sheet, ← flush-ahead) (sym (row-again l′ i));
       }
+
+  pub flushing-end : Flushes parts q clock i l done l′
+  flushing-end = record {
+    count = h .counted .sum ∙ sym (length-kept (λ k. hot parts q (rowAt l k)) i);
+    sheet = h .sheet ∙ sym (leave-is parts q clock l i);
+    few = h .counted .few;
+  }
 
 -- ---- the memory rows of each partition
 
@@ -138,8 +130,8 @@ first-cong f g (suc n) m b h =
     rw (first-cong f g n m (omega arith) h, h n (omega arith), h (firstLargest g n) (first-within g n m (omega arith) (omega arith)))
 
 -- the sizes are read off the array of `count_portions`
-pub largest-is : (parts : ℕ) (f : ℕ → Row) (n : ℕ) (sizes : List ℕ) → parts ≤ 16 → sizes ≡ values (λ q. portionRows parts q f n) 16
-    → firstLargest (λ q. getD sizes q 0) parts ≡ largestPart parts f n
+pub largest-is : (parts : ℕ) (h : Held) (sizes : List ℕ) → parts ≤ 16 → sizes ≡ values (h .portion) 16
+    → firstLargest (λ q. getD sizes q 0) parts ≡ largestPart parts h
 unfolding largestPart
-largest-is parts f n sizes h e =
-    first-cong (λ q. getD sizes q 0) (λ q. portionRows parts q f n) parts 16 h (λ q b. rw e (values-at (λ q. portionRows parts q f n) 16 q 0 b))
+largest-is parts h sizes b e =
+    first-cong (λ q. getD sizes q 0) (h .portion) parts 16 b (λ q c. rw e (values-at (h .portion) 16 q 0 c))

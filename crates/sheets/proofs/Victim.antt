@@ -14,7 +14,7 @@ use Rattle.stamps.specs.Counting.Laws.{tests, one-more}
 use Rattle.stamps.specs.Keys.{partOf}
 use Rattle.stamps.specs.Keys.Laws.{part-below}
 use Rattle.stamps.specs.Stamps.{inMemory}
-use Rattle.sheets.specs.Rows.{memoryRows, portionRows, firstLargest, largestPart, victim}
+use Rattle.sheets.specs.Rows.{memoryRows, portionRows, Held, heldIn, firstLargest, largestPart, victim}
 use Rattle.sheets.specs.declared.rows.Victim.{Victim}
 
 -- ---- the first of the largest
@@ -56,41 +56,48 @@ none-hot parts f (suc n) z h =
     omega (arith, none-hot parts f n z (λ q b. omega (arith, h q b)), not-last)
 
 -- a source with a row in memory has one in its largest portion
-largest-some : (parts : ℕ) (f : ℕ → Row) (n : ℕ) → 0 < parts → 0 < memoryRows f n → 0 < portionRows parts (largestPart parts f n) f n
+largest-some : (parts : ℕ) (f : ℕ → Row) (n : ℕ) → 0 < parts → 0 < memoryRows f n → 0 < portionRows parts (largestPart parts (heldIn parts f n)) f n
 unfolding largestPart
-largest-some parts f n z h = go (portionRows parts (largestPart parts f n) f n) refl
+largest-some parts f n z h = go (portionRows parts (largestPart parts (heldIn parts f n)) f n) refl
   where
-    go : (k : ℕ) → portionRows parts (largestPart parts f n) f n ≡ k → 0 < k
+    go : (k : ℕ) → portionRows parts (largestPart parts (heldIn parts f n)) f n ≡ k → 0 < k
     go zero e = absurd (omega (arith, none-hot parts f n z λ q b. omega (arith, e, first-largest (λ q. portionRows parts q f n) parts .largest q b)))
     go (suc k) e = omega arith
 
 -- ---- the victim
 
-module _ (parts : ℕ) (f : ℕ → Row) (n : ℕ) (g : ℕ → Row) (m : ℕ) where
+module _ (parts : ℕ) (a b : Held) where
   abbrev of-a : Victim
-  of-a = record { source = A; part = largestPart parts f n }
+  of-a = record { source = A; part = largestPart parts a }
 
   abbrev of-b : Victim
-  of-b = record { source = B; part = largestPart parts g m }
+  of-b = record { source = B; part = largestPart parts b }
 
-  pub victim-a : memoryRows g m ≤ memoryRows f n → victim parts f n g m ≡ of-a
+  pub victim-a : b .rows ≤ a .rows → victim parts a b ≡ of-a
   unfolding victim
-  victim-a b = ap (λ more. cond more of-b of-a) (le-ltb (memoryRows f n) (memoryRows g m) b)
+  victim-a h = ap (λ more. cond more of-b of-a) (le-ltb (a .rows) (b .rows) h)
 
   -- so a burst of the pack feed pushes out its own rows
-  pub victim-b : memoryRows f n < memoryRows g m → victim parts f n g m ≡ of-b
+  pub victim-b : a .rows < b .rows → victim parts a b ≡ of-b
   unfolding victim
-  victim-b b = ap (λ more. cond more of-b of-a) (lt-ltb (memoryRows f n) (memoryRows g m) b)
+  victim-b h = ap (λ more. cond more of-b of-a) (lt-ltb (a .rows) (b .rows) h)
 
-  -- the rows of a portion that are in memory
-  abbrev held : Source → ℕ → ℕ
-  held A q = portionRows parts q f n
-  held B q = portionRows parts q g m
+-- a for A, b for B
+abbrev heldBy : Held → Held → Source → Held
+heldBy a b A = a
+heldBy a b B = b
 
-  -- so a flush for room moves a row
-  pub victim-some : 0 < parts → 0 < memoryRows f n + memoryRows g m → 0 < held (victim parts f n g m .source) (victim parts f n g m .part)
+-- so a flush for room moves a row
+module _ (parts : ℕ) (f : ℕ → Row) (n : ℕ) (g : ℕ → Row) (m : ℕ) where
+  abbrev in-a : Held
+  in-a = heldIn parts f n
+
+  abbrev in-b : Held
+  in-b = heldIn parts g m
+
+  pub victim-some : 0 < parts → 0 < memoryRows f n + memoryRows g m → let v = victim parts in-a in-b in 0 < heldBy in-a in-b (v .source) .portion (v .part)
   victim-some z h = go (ltb (memoryRows f n) (memoryRows g m)) refl
     where
-      go : (u : Bool) → ltb (memoryRows f n) (memoryRows g m) ≡ u → 0 < held (victim parts f n g m .source) (victim parts f n g m .part)
-      go true e = rw (victim-b (omega (arith, tests))) (largest-some parts g m z (omega (arith, tests)))
-      go false e = rw (victim-a (omega (arith, tests))) (largest-some parts f n z (omega (arith, tests)))
+      go : (u : Bool) → ltb (memoryRows f n) (memoryRows g m) ≡ u → let v = victim parts in-a in-b in 0 < heldBy in-a in-b (v .source) .portion (v .part)
+      go true e = rw (victim-b parts in-a in-b (omega (arith, tests))) (largest-some parts g m z (omega (arith, tests)))
+      go false e = rw (victim-a parts in-a in-b (omega (arith, tests))) (largest-some parts f n z (omega (arith, tests)))

@@ -1,10 +1,13 @@
 -- How rows, entries and pairs stand in 32-bit words. Only this module and those below it know how many words each has.
+use mathlib.Core.Bool.{Bool}
 use mathlib.Core.List.{List, [], _∷_}
 use Prim.Native.Nat.{ℕ, _+_, _*_, _/_}
+use lib.Dec.{eqb}
 use lib.ListN.{getD}
 use lib.Seq.{sets}
 use Rattle.stamps.specs.declared.Source.{Source}
 use Rattle.stamps.specs.declared.Source.the-variants.{A, B}
+use Rattle.stamps.specs.declared.Item.{Item}
 use Rattle.stamps.specs.declared.Row.{Row}
 use Rattle.stamps.specs.declared.Entry.{Entry}
 pub mod Meaning
@@ -57,11 +60,33 @@ putEntry k e x l = sets l (64 * k + 2 * e) (entryWords x)
 
 -- ---- pairs: "A pair is (A row number, B row number, key)", "three words a pair"
 
--- as it stands in an output
+-- a row of A and a row of B, by their numbers
+pub record Pair : Type 0 where
+  pub a : ℕ
+  pub b : ℕ
+
+-- what is shown of them besides: only this section knows what that is
+pub record Shown : Type 0 where
+  pub key : ℕ
+
+-- of rows of A and B with these items; the two have one key
+unfoldable pub shows : Item → Item → Shown
+shows x y = record { key = x .key }
+
+-- one and the same
+unfoldable pub sameShown : Shown → Shown → Bool
+sameShown x y = eqb (x .key) (y .key)
+
+-- a pair as it stands in an output
 pub record Told : Type 0 where
   pub a : ℕ
   pub b : ℕ
-  pub key : ℕ
+  pub shown : Shown
+
+-- what is written of a pair of rows with these items, for source A; for B with the rows in each other's place
+abbrev pub tell : Source → Pair → Item → Item → Told
+tell A p x y = record { a = p .a; b = p .b; shown = shows x y }
+tell B p x y = record { a = p .b; b = p .a; shown = shows y x }
 
 -- the words that n pairs take
 abbrev pub pairsNeed : ℕ → ℕ
@@ -73,11 +98,15 @@ roomOf words = words / 3
 
 -- pair number w of an output
 unfoldable pub pairAt : List ℕ → ℕ → Told
-pairAt o w = record { a = getD o (3 * w) 0; b = getD o (3 * w + 1) 0; key = getD o (3 * w + 2) 0 }
+pairAt o w = record { a = getD o (3 * w) 0; b = getD o (3 * w + 1) 0; shown = record { key = getD o (3 * w + 2) 0 } }
 
--- its words, in their order
+-- the words of what is shown, in their order
+abbrev pub shownWords : Shown → List ℕ
+shownWords x = x .key ∷ []
+
+-- and of the pair
 abbrev pub pairWords : Told → List ℕ
-pairWords x = x .a ∷ x .b ∷ x .key ∷ []
+pairWords x = x .a ∷ x .b ∷ shownWords (x .shown)
 
 -- pair number w written
 unfoldable pub putPair : ℕ → Told → List ℕ → List ℕ

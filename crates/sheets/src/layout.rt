@@ -7,8 +7,7 @@ ghost use mathlib.Core.Path.{_≡_};
 ghost use Prim.Native.Nat.{_+_, _≤_, _<_};
 ghost use lib.ListN.{length};
 ghost use Rattle.stamps.specs.Stamps.{stamp};
-ghost use Rattle.sheets.specs.Layout.{rowsNeed, probeNeed, roomOf, rowAt, putRow, listNo, listNeed, entryAt, putEntry, pairsNeed, putPair, singlesNeed, singleRoom, putSingle};
-ghost use Rattle.sheets.specs.Pairs.{tell};
+ghost use Rattle.sheets.specs.Layout.{rowsNeed, probeNeed, roomOf, rowAt, putRow, listNo, listNeed, entryAt, putEntry, pairsNeed, shows, tell, putPair, singlesNeed, singleRoom, putSingle};
 
 // The words of a row: its key, ATS and DTS.
 pub const ROW: usize = 3;
@@ -146,10 +145,10 @@ pub fn put_entry(probe: &mut [u32], list: usize, e: usize, x: Entry)
     probe[at + 1] = x.probe;
 }
 
-// Pair number w.
-fn put_pair(out: &mut [u32], w: usize, a: u32, b: u32, of_a: Item)
+// Pair number w, of rows of A and B with these items; the two have one key.
+fn put_pair(out: &mut [u32], w: usize, a: u32, b: u32, of_a: Item, of_b: Item)
     requires { ⌜ pairsNeed (w + 1) ≤ length (now out) ⌝ }
-    ensures { λ _. ⌜ now (out .exit) ≡ putPair w (record { a = a; b = b; key = «of_a» .key }) (now (out .entry)) ⌝ }
+    ensures { λ _. ⌜ now (out .exit) ≡ putPair w (record { a = a; b = b; shown = shows «of_a» «of_b» }) (now (out .entry)) ⌝ }
 {
     let at = PAIR * w;
     out[at] = a;
@@ -171,8 +170,8 @@ pub fn put_told(
     ensures { λ _. ⌜ now (out .exit) ≡ putPair w (tell source (record { a = own; b = facing }) «own_item» «facing_item») (now (out .entry)) ⌝ }
 {
     match source {
-        Source::A => put_pair(out, w, own, facing, own_item),
-        Source::B => put_pair(out, w, facing, own, facing_item),
+        Source::A => put_pair(out, w, own, facing, own_item, facing_item),
+        Source::B => put_pair(out, w, facing, own, facing_item, own_item),
     }
 }
 

@@ -8,7 +8,7 @@ ghost use Prim.Native.Nat.{_+_, _^_, _≤_, _<_};
 ghost use lib.ListN.{length, getD};
 ghost use Rattle.stamps.specs.Counting.{values};
 ghost use Rattle.sheets.specs.Layout.{rowsNeed, rowAt};
-ghost use Rattle.sheets.specs.Rows.{hot, memoryRows, portionRows, latest, Flushes, firstLargest, largestPart, victim};
+ghost use Rattle.sheets.specs.Rows.{hot, memoryRows, portionRows, latest, Flushes, heldIn, firstLargest, largestPart, victim};
 
 pub fn count_memory(sheet: &[u32], rows: usize) -> usize
     requires { ⌜ rowsNeed rows ≤ length (now sheet) ⌝ }
@@ -70,7 +70,7 @@ fn first_largest(sizes: [usize; 16], parts: u32) -> u32
 // The partition of which the source has most rows in memory.
 fn largest_part(sheet: &[u32], rows: usize, parts: u32) -> u32
     requires { ⌜ (rowsNeed rows ≤ length (now sheet)) × (0 < parts) × (parts ≤ 16) ⌝ }
-    ensures { λ r. ⌜ r ≡ largestPart parts (rowAt (now (sheet .entry))) rows ⌝ }
+    ensures { λ r. ⌜ r ≡ largestPart parts (heldIn parts (rowAt (now (sheet .entry))) rows) ⌝ }
 {
     let sizes = count_portions(sheet, rows, parts);
     first_largest(sizes, parts)
@@ -88,7 +88,7 @@ pub fn find_victim(
 ) -> Victim
     requires { ⌜ (rowsNeed «a_rows» ≤ length (now a)) × (rowsNeed «b_rows» ≤ length (now b)) × (0 < parts) × (parts ≤ 16) ⌝ }
     requires { ⌜ («a_held» ≡ memoryRows (rowAt (now a)) «a_rows») × («b_held» ≡ memoryRows (rowAt (now b)) «b_rows») ⌝ }
-    ensures { λ r. ⌜ r ≡ victim parts (rowAt (now (a .entry))) «a_rows» (rowAt (now (b .entry))) «b_rows» ⌝ }
+    ensures { λ r. ⌜ r ≡ victim parts (heldIn parts (rowAt (now (a .entry))) «a_rows») (heldIn parts (rowAt (now (b .entry))) «b_rows») ⌝ }
 {
     if a_held < b_held {
         return Victim {

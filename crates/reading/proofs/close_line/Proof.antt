@@ -1,8 +1,8 @@
 -- `reading::close_line` meets its contract: each test and each field is one of `closeLine`.
 -- Assumes nothing.
 use borrow.Author.Needs.{needs}
-use Rattle.reading.specs.Reading.{closeLine}
 use Rattle.text.proofs.Tested.{told-eq, told-ne}
+use Rattle.reading.specs.Reading.{closeLine}
 use Rattle.reading.proofs.close_line.Statement.{statement}
 use Rattle.reading.proofs.close_line.Tie as tie
 

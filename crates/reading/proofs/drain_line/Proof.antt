@@ -2,8 +2,8 @@
 -- Assumes nothing.
 use borrow.Author.Needs.{needs}
 use borrow.Author.Tests.{le-leb, lt-leb}
-use Rattle.reading.specs.Reading.{drainLine}
 use Rattle.text.proofs.Tested.{told-eq, told-ne}
+use Rattle.reading.specs.Reading.{drainLine}
 use Rattle.reading.proofs.drain_line.Statement.{statement}
 use Rattle.reading.proofs.drain_line.Tie as tie
 

@@ -1,14 +1,14 @@
 -- `reading::read_line` meets its contract: the word picks the line, as in `lineOf`.
 -- Assumes nothing.
 use borrow.Author.Needs.{needs}
-use borrow.Author.Tests.{le-leb, lt-leb}
-use Rattle.reading.specs.Reading.{readLine}
 use Prim.Native.Nat.{_≤_, _<_}
 use native.Mathlib.Omega.{arith}
-use denote.Ref.{now}
 use lib.ListN.{length}
+use borrow.Author.Tests.{le-leb, lt-leb}
+use Rattle.reading.specs.Reading.{readLine}
 use Rattle.reading.proofs.read_line.Statement.{statement}
 use Rattle.reading.proofs.read_line.Tie as tie
+use denote.Ref.{now}
 
 returns : tie.Need-returns
 unfolding readLine

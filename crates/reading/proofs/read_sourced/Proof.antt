@@ -1,8 +1,8 @@
 -- `reading::read_sourced` meets its contract: each test and each field is one of `sourcedOf`.
 -- Assumes nothing.
 use borrow.Author.Needs.{needs}
-use Rattle.reading.specs.Reading.{sourcedOf}
 use Rattle.text.proofs.Tested.{told-eq, told-ne}
+use Rattle.reading.specs.Reading.{sourcedOf}
 use Rattle.reading.proofs.read_sourced.Statement.{statement}
 use Rattle.reading.proofs.read_sourced.Tie as tie
 

@@ -1,8 +1,8 @@
 -- `reading::read_three` meets its contract: each test and each field is one of `threeOf`.
 -- Assumes nothing.
 use borrow.Author.Needs.{needs}
-use Rattle.reading.specs.Reading.{threeOf}
 use Rattle.text.proofs.Tested.{told-eq, told-ne}
+use Rattle.reading.specs.Reading.{threeOf}
 use Rattle.reading.proofs.read_three.Statement.{statement}
 use Rattle.reading.proofs.read_three.Tie as tie
 

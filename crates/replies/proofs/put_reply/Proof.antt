@@ -1,8 +1,8 @@
 -- `replies::put_reply` meets its contract: the pairs, the rows without partner, then the answer.
 -- Assumes nothing.
 use borrow.Author.Needs.{needs}
-use native.Mathlib.Omega.{arith}
 use mathlib.Core.Path.{ap}
+use native.Mathlib.Omega.{arith}
 use Rattle.text.specs.Putting.{linesText}
 use Rattle.text.proofs.PutTurns.{put-is, put-then}
 use Rattle.replies.specs.Printing.{PAIR, LONE, replyText}

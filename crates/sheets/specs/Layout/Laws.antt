@@ -1,6 +1,7 @@
 -- What is written in words is read back, and the other words stay. By where each word stands; omega settles which words differ.
 -- Assumes nothing.
 use mathlib.Core.Path.{_≡_, refl, sym, _∙_}
+use mathlib.Core.Bool.{true}
 use mathlib.Core.Logic.{_≢_}
 use mathlib.Core.List.{List, [], _∷_}
 use Prim.Native.Nat.{ℕ, zero, suc, _+_, _*_, _≤_, _<_}
@@ -9,9 +10,10 @@ use native.Mathlib.Omega.{arith}
 use native.Mathlib.Numerals.{add-one}
 use lib.ListN.{length, getD, set, length-set, take, drop}
 use lib.Seq.{drop-cons, sets, length-sets, getD-set-same, getD-set-other, set-getD}
+use borrow.Author.Tests.{eq-eqb}
 use Rattle.stamps.specs.declared.Row.{Row}
 use Rattle.stamps.specs.declared.Entry.{Entry}
-use Rattle.sheets.specs.Layout.{rowsNeed, rowAt, rowWords, putRow, listNeed, entryAt, entryWords, putEntry, Told, pairsNeed, pairAt, pairWords, putPair, Single, singlesNeed, singleAt, singleWords, putSingle}
+use Rattle.sheets.specs.Layout.{rowsNeed, rowAt, rowWords, putRow, listNeed, entryAt, entryWords, putEntry, Shown, sameShown, Told, pairsNeed, pairAt, pairWords, putPair, Single, singlesNeed, singleAt, singleWords, putSingle}
 
 -- ---- a block of words
 
@@ -96,20 +98,24 @@ entry-other l k e x k′ e′ d h b = λ i. record { last = word 0 (64 * k′ + 
 
 -- ---- pairs
 
+pub shown-own : (x : Shown) → sameShown x x ≡ true
+unfolding sameShown
+shown-own x = eq-eqb (x .key) (x .key) refl
+
 pub length-putPair : (w : ℕ) (x : Told) (o : List ℕ) → length (putPair w x o) ≡ length o
 unfolding putPair
 length-putPair w x o = length-sets o (3 * w) (pairWords x)
 
 pub pair-same : (o : List ℕ) (w : ℕ) (x : Told) → pairsNeed (suc w) ≤ length o → pairAt (putPair w x o) w ≡ x
 unfolding pairAt putPair
-pair-same o w x h = λ i. record { a = word 0 (3 * w) (omega arith) (omega arith) i; b = word 1 (3 * w + 1) refl (omega arith) i; key = word 2 (3 * w + 2) refl (omega arith) i }
+pair-same o w x h = λ i. record { a = word 0 (3 * w) (omega arith) (omega arith) i; b = word 1 (3 * w + 1) refl (omega arith) i; shown = record { key = word 2 (3 * w + 2) refl (omega arith) i } }
   where
     word : (j p : ℕ) → p ≡ 3 * w + j → j < 3 → getD (sets o (3 * w) (pairWords x)) p 0 ≡ getD (pairWords x) j 0
     word j p e b = sets-same (pairWords x) o (3 * w) j p e b (omega arith)
 
 pub pair-other : (o : List ℕ) (w : ℕ) (x : Told) (i : ℕ) → i ≢ w → pairAt (putPair w x o) i ≡ pairAt o i
 unfolding pairAt putPair
-pair-other o w x i d = λ k. record { a = word 0 (3 * i) (omega arith) (omega arith) k; b = word 1 (3 * i + 1) refl (omega arith) k; key = word 2 (3 * i + 2) refl (omega arith) k }
+pair-other o w x i d = λ k. record { a = word 0 (3 * i) (omega arith) (omega arith) k; b = word 1 (3 * i + 1) refl (omega arith) k; shown = record { key = word 2 (3 * i + 2) refl (omega arith) k } }
   where
     word : (j p : ℕ) → p ≡ 3 * i + j → j < 3 → getD (sets o (3 * w) (pairWords x)) p 0 ≡ getD o p 0
     word j p e b = sets-other (pairWords x) o (3 * w) p (λ k c f. d (omega arith))

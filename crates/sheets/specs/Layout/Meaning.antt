@@ -6,10 +6,11 @@ use Prim.Native.Nat.{ℕ, _+_, _*_}
 use native.Mathlib.Numerals.{unary-clauses}
 use lib.ListN.{getD, set}
 use lib.Seq.{set-getD}
+use Rattle.stamps.specs.declared.Item.{Item}
 use Rattle.stamps.specs.declared.Row.{Row}
 use Rattle.stamps.specs.declared.Entry.{Entry}
 use Rattle.stamps.specs.Stamps.{stamp}
-use Rattle.sheets.specs.Layout.{rowAt, putRow, entryAt, putEntry, Told, putPair, Single, putSingle}
+use Rattle.sheets.specs.Layout.{rowAt, putRow, entryAt, putEntry, shows, Told, putPair, Single, putSingle}
 
 pub rowAt-is : (l : List ℕ) (r : ℕ)
     → rowAt l r ≡ record { item = record { key = getD l (3 * r) 0 }; ats = getD l (3 * r + 1) 0; dts = getD l (3 * r + 2) 0 }
@@ -28,9 +29,13 @@ pub putEntry-is : (k e : ℕ) (x : Entry) (l : List ℕ) → putEntry k e x l �
 unfolding putEntry
 putEntry-is k e x l = simp unary-clauses
 
-pub putPair-is : (w : ℕ) (x : Told) (o : List ℕ) → putPair w x o ≡ set (set (set o (3 * w) (x .a)) (3 * w + 1) (x .b)) (3 * w + 2) (x .key)
+pub putPair-is : (w : ℕ) (x : Told) (o : List ℕ) → putPair w x o ≡ set (set (set o (3 * w) (x .a)) (3 * w + 1) (x .b)) (3 * w + 2) (x .shown .key)
 unfolding putPair
 putPair-is w x o = simp unary-clauses
+
+pub shows-is : (x y : Item) → shows x y ≡ record { key = x .key }
+unfolding shows
+shows-is x y = refl
 
 pub putSingle-is : (w : ℕ) (x : Single) (o : List ℕ) → putSingle w x o ≡ set (set o (2 * w) (x .row)) (2 * w + 1) (x .key)
 unfolding putSingle

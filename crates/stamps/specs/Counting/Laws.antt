@@ -42,6 +42,13 @@ each [] h = tt
 each (b ∷ []) h = (h, tt)
 each (b ∷ c ∷ bs) h = let p = both b (allOf (c ∷ bs)) h in (p .0, each (c ∷ bs) (p .1))
 
+-- five tests, joined from the left
+pub all-five : (a b c d e : Bool) → allOf (a ∷ b ∷ c ∷ d ∷ e ∷ []) ≡ ((((a && b) && c) && d) && e)
+all-five false b c d e = refl
+all-five true false c d e = refl
+all-five true true false d e = refl
+all-five true true true d e = refl
+
 -- the second test matters only where the first holds
 pub and-cong : (u : Bool) {v w : Bool} → (u ≡ true → v ≡ w) → (u && v) ≡ (u && w)
 and-cong true h = h refl
@@ -167,6 +174,23 @@ length-keep t (x ∷ l) = go (t x) (length-keep t l)
 pub length-span : (i n : ℕ) → length (span i n) ≡ n
 length-span i zero = refl
 length-span i (suc n) = ap suc (length-span (suc i) n)
+
+-- the last of them
+span-last : (i n : ℕ) → span i (suc n) ≡ span i n ++ ((i + n) ∷ [])
+span-last i zero = rw add-zero
+span-last i (suc n) = let e : suc i + n ≡ i + suc n = omega arith in rw (span-last (suc i) n, e)
+
+pub kept-last : (t : ℕ → Bool) (n : ℕ) → keep t (span 0 (suc n)) ≡ keep t (span 0 n) ++ cond (t n) (n ∷ []) []
+kept-last t n = ap (keep t) (span-last 0 n ∙ ap (λ (k : ℕ). span 0 n ++ (k ∷ [])) (zero-add n)) ∙ keep-append t (span 0 n) (n ∷ [])
+
+-- as many are kept as are counted
+pub length-kept : (t : ℕ → Bool) (n : ℕ) → length (keep t (span 0 n)) ≡ tally t n
+length-kept t zero = refl
+length-kept t (suc n) = ap length (kept-last t n) ∙ length-append (keep t (span 0 n)) _ ∙ rw (length-kept t n) (go (t n))
+  where
+    go : (u : Bool) → tally t n + length (cond u (n ∷ []) []) ≡ tally t n + bit u
+    go true = refl
+    go false = refl
 
 -- the numbers from i up to n: the first, and the rest; none
 pub span-step : (i n : ℕ) → i < n → span i (n - i) ≡ i ∷ span (i + 1) (n - (i + 1))

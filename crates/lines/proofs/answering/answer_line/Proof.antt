@@ -2,7 +2,7 @@
 -- Assumes nothing.
 use borrow.Author.Needs.{needs}
 use native.Mathlib.Omega.{arith}
-use Rattle.rules.specs.World.{lent}
+use Rattle.rules.specs.World.{bundle}
 use Rattle.lines.proofs.AnswerTurns.{says-turn}
 use Rattle.lines.proofs.answering.answer_line.Statement.{statement}
 use Rattle.lines.proofs.answering.answer_line.Tie as tie
@@ -14,10 +14,11 @@ put-reply-requires c κs =
 
 returns : tie.Need-returns
 returns c =
-    let at-respond = c .before .before .before .before .before .before .before .before .before .before .before in
+    let at-put-reply = c .before in
+    let at-respond = at-put-reply .before .before .before .before .before .before .before .before .before .before in
     let entry = at-respond .before .before .before .before .before .before .before .before .before in
-    let ended = at-respond .respond .last .1 .1 in
-    says-turn _ _ (lent (entry .args .a .now) (entry .args .b .now) (entry .args .probe .now)) _ _ _ (lent (ended .0) (ended .1 .0) (ended .1 .1 .0)) _ _ _ (at-respond .respond .ensures .0) (c .before .put-reply .ensures .0) (omega (arith, c .before .put-reply .ensures .1, at-respond .respond .ensures .1))
+    let left = at-respond .respond .last .1 .1 in
+    says-turn _ _ (bundle (entry .args .a .now) (entry .args .b .now) (entry .args .probe .now)) _ _ _ (bundle (left .0) (left .1 .0) (left .1 .1 .0)) _ _ _ (at-respond .respond .ensures .0) (at-put-reply .put-reply .ensures .0) (omega (arith, at-put-reply .put-reply .ensures .1, at-respond .respond .ensures .1))
 
 pub answer-line-spec : {M : Type 1} → statement M
 answer-line-spec =

@@ -2,9 +2,9 @@
 -- Assumes nothing.
 use borrow.Author.Needs.{needs}
 use native.Mathlib.Omega.{arith}
-use Rattle.rules.specs.World.{lent, lengths}
-use Rattle.lines.proofs.AnswerTurns.{begun-fits, asked-fits, asked-in-fits}
+use Rattle.rules.specs.World.{bundle}
 use Rattle.reading.proofs.Laws.{read-fits}
+use Rattle.lines.proofs.AnswerTurns.{begun-fits, asked-fits, asked-in-fits}
 use Rattle.lines.proofs.answering.respond.Statement.{statement}
 use Rattle.lines.proofs.answering.respond.Tie as tie
 
@@ -25,7 +25,7 @@ returns c =
     let at-parts = c .before .before .before .before .before .before in
     let at-read-line = at-parts .before .before in
     let entry = at-read-line .before .before .before .before .before in
-    (rw (← at-read-line .read-line .ensures, at-parts .parts .given .1, c .begin .ensures, c .before .«open» .ensures), begun-fits _ _ _ _ (lengths (lent (entry .args .a .now) (entry .args .b .now) (entry .args .probe .now))) _ (rw (c .before .«open» .ensures) at (c .begin .ensures)))
+    (rw (← at-read-line .read-line .ensures, at-parts .parts .given .1, c .begin .ensures, c .before .«open» .ensures), begun-fits _ _ _ _ (bundle (entry .args .a .now) (entry .args .b .now) (entry .args .probe .now)) _ (rw (c .before .«open» .ensures) at (c .begin .ensures)))
 
 returns-2 : tie.Need-returns-2
 returns-2 c =
@@ -34,7 +34,7 @@ returns-2 c =
     let at-read-line = at-call .before .before in
     let entry = at-read-line .before .before .before .before .before in
     let h = read-fits _ (at-read-line .read-line .ensures) (at-call .call .given .1) in
-    (rw (← at-read-line .read-line .ensures, at-call .call .given .1) (at-ask .ask .ensures), asked-fits _ _ (lent (entry .args .a .now) (entry .args .b .now) (entry .args .probe .now)) (entry .args .out .now) (at-ask .ask .result) (λ i. at-ask .ask .ensures i .told) (omega arith) h)
+    (rw (← at-read-line .read-line .ensures, at-call .call .given .1) (at-ask .ask .ensures), asked-fits _ _ (bundle (entry .args .a .now) (entry .args .b .now) (entry .args .probe .now)) (entry .args .out .now) (at-ask .ask .result) (λ i. at-ask .ask .ensures i .told) (omega arith) h)
 
 returns-3 : tie.Need-returns-3
 returns-3 c =
@@ -44,7 +44,7 @@ returns-3 c =
     let at-read-line = at-room .before .before in
     let entry = at-read-line .before .before .before .before .before in
     let h = read-fits _ (at-read-line .read-line .ensures) (at-room .room .given .1) in
-    (rw (← at-read-line .read-line .ensures, at-room .room .given .1, ← at-pairs-need .pairs-need .ensures) (at-ask-in .ask-in .ensures), asked-in-fits _ _ _ (lent (entry .args .a .now) (entry .args .b .now) (entry .args .probe .now)) (entry .args .out .now) (at-ask-in .ask-in .result) (λ i. at-ask-in .ask-in .ensures i .told) (omega (arith, h, at-pairs-need .pairs-need .ensures)))
+    (rw (← at-read-line .read-line .ensures, at-room .room .given .1, ← at-pairs-need .pairs-need .ensures) (at-ask-in .ask-in .ensures), asked-in-fits _ _ _ (bundle (entry .args .a .now) (entry .args .b .now) (entry .args .probe .now)) (entry .args .out .now) (at-ask-in .ask-in .result) (λ i. at-ask-in .ask-in .ensures i .told) (omega (arith, h, at-pairs-need .pairs-need .ensures)))
 
 returns-4 : tie.Need-returns-4
 returns-4 c =
@@ -54,7 +54,7 @@ returns-4 c =
     let at-read-line = at-source .before .before in
     let entry = at-read-line .before .before .before .before .before in
     let h = read-fits _ (at-read-line .read-line .ensures) (at-source .source .given .1) in
-    (rw (← at-read-line .read-line .ensures, at-source .source .given .1, ← at-singles-need .singles-need .ensures) (at-ask-in2 .ask-in2 .ensures), asked-in-fits _ _ _ (lent (entry .args .a .now) (entry .args .b .now) (entry .args .probe .now)) (entry .args .out .now) (at-ask-in2 .ask-in2 .result) (λ i. at-ask-in2 .ask-in2 .ensures i .told) (omega (arith, h, at-singles-need .singles-need .ensures)))
+    (rw (← at-read-line .read-line .ensures, at-source .source .given .1, ← at-singles-need .singles-need .ensures) (at-ask-in2 .ask-in2 .ensures), asked-in-fits _ _ _ (bundle (entry .args .a .now) (entry .args .b .now) (entry .args .probe .now)) (entry .args .out .now) (at-ask-in2 .ask-in2 .result) (λ i. at-ask-in2 .ask-in2 .ensures i .told) (omega (arith, h, at-singles-need .singles-need .ensures)))
 
 returns-5 : tie.Need-returns-5
 returns-5 c = (rw (← c .before .before .read-line .ensures, c .enum-told .given .1), omega arith)

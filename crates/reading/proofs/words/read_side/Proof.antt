@@ -1,8 +1,8 @@
 -- `reading::words::read_side` meets its contract: each test that is passed or met is a test of `sideOf`.
 -- Assumes nothing.
 use borrow.Author.Needs.{needs}
-use Rattle.reading.specs.Words.{sideOf}
 use Rattle.text.proofs.Tested.{told}
+use Rattle.reading.specs.Words.{sideOf}
 use Rattle.reading.proofs.words.read_side.Statement.{statement}
 use Rattle.reading.proofs.words.read_side.Tie as tie
 

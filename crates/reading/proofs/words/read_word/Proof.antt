@@ -1,8 +1,8 @@
 -- `reading::words::read_word` meets its contract: each test that is passed or met is a test of `wordOf`.
 -- Assumes nothing.
 use borrow.Author.Needs.{needs}
-use Rattle.reading.specs.Words.{wordOf}
 use Rattle.text.proofs.Tested.{told}
+use Rattle.reading.specs.Words.{wordOf}
 use Rattle.reading.proofs.words.read_word.Statement.{statement}
 use Rattle.reading.proofs.words.read_word.Tie as tie
 

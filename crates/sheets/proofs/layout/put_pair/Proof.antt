@@ -3,7 +3,7 @@
 use borrow.Author.Needs.{needs}
 use native.Mathlib.Omega.{arith}
 use lib.ListN.{length-set}
-use Rattle.sheets.specs.Layout.Meaning.{putPair-is}
+use Rattle.sheets.specs.Layout.Meaning.{putPair-is, shows-is}
 use Rattle.sheets.proofs.layout.put_pair.Statement.{statement}
 use Rattle.sheets.proofs.layout.put_pair.Tie as tie
 
@@ -14,7 +14,7 @@ slice-write-out-3 : tie.Need-slice-write-out-3
 slice-write-out-3 c = simp length-set (omega arith)
 
 returns : tie.Need-returns
-returns c = rw putPair-is
+returns c = rw (putPair-is, shows-is)
 
 pub put-pair-spec : {M : Type 1} → statement M
 put-pair-spec =

@@ -7,7 +7,7 @@ use native.Mathlib.Omega.{arith}
 use borrow.Author.Tests.{eq-eqb, ne-eqb}
 use Rattle.stamps.specs.Stamps.{inMemory}
 use Rattle.sheets.specs.Layout.{rowAt}
-use Rattle.sheets.proofs.RowTurns.{Counted, counted-first, counted-one, counted-none}
+use Rattle.sheets.proofs.Counted.{Counted, counted-first, counted-one, counted-none}
 use Rattle.sheets.proofs.rows.count_memory.Statement.{statement}
 use Rattle.sheets.proofs.rows.count_memory.Tie as tie
 

@@ -4,7 +4,7 @@ use borrow.Author.Needs.{needs}
 use Prim.Native.Nat.{_≤_, _-_}
 use mathlib.Core.Path.{_≡_, sym, _∙_}
 use native.Mathlib.Omega.{arith}
-use Rattle.sheets.proofs.RowTurns.{Flushing, flushing-first, flushing-hot, flushing-cold}
+use Rattle.sheets.proofs.RowTurns.{Flushing, flushing-first, flushing-hot, flushing-cold, flushing-end}
 use Rattle.sheets.proofs.rows.flush.Statement.{statement}
 use Rattle.sheets.proofs.rows.flush.Tie as tie
 
@@ -31,7 +31,7 @@ loop-again-2 c =
 
 returns : tie.Need-returns Inv-loop μ-loop
 returns c = let e : c .before .loop .i ≡ c .before .before .before .args .rows = omega arith in
-    record { count = rw (← e) (c .before .loop .inv .1 .counted .sum); sheet = rw (← e) (c .before .loop .inv .1 .sheet); few = omega arith }
+    flushing-end _ _ _ _ _ _ _ (rw e at (c .before .loop .inv .1))
 
 pub flush-spec : {M : Type 1} → statement M
 flush-spec =

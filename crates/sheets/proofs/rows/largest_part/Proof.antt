@@ -7,7 +7,7 @@ use Rattle.sheets.proofs.rows.largest_part.Statement.{statement}
 use Rattle.sheets.proofs.rows.largest_part.Tie as tie
 
 returns : tie.Need-returns
-returns c = c .first-largest .ensures ∙ largest-is _ _ _ _ (c .before .before .before .pre .2) (c .before .count-portions .ensures)
+returns c = c .first-largest .ensures ∙ largest-is _ _ _ (c .before .before .before .pre .2) (c .before .count-portions .ensures)
 
 pub largest-part-spec : {M : Type 1} → statement M
 largest-part-spec =

@@ -1,5 +1,0 @@
-mod Arrivals
-mod Flushing
-mod Passing
-mod Runs
-mod Singles

@@ -1,0 +1,2 @@
+pub mod Facing
+pub mod Passed

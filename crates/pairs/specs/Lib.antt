@@ -1,0 +1,4 @@
+pub mod Joins
+pub mod Lones
+pub mod Pairs
+pub mod Rooms
