@@ -8,7 +8,3 @@ caseHead = 52
 -- the most words of a sheet
 abbrev pub sheetMost : ℕ
 sheetMost = 12288
-
--- the numbers that are printed at a time
-abbrev pub pieceMost : ℕ
-pieceMost = 256

@@ -1,11 +1,11 @@
 // A case: what its numbers ask for, and the answer to it. In their order the numbers are the kind of the call and its four
 // arguments; the record, as P, M, N, clock, rows of A and of B, closed A and B, 32 entry counts, position, lone positions
 // of A and B; the lengths of the sheets A, B, probe and output; and then the words of these sheets.
-use crate::printing::print_bad;
-use crate::printing::print_line;
-use crate::printing::print_reply;
 use calls::opening::open;
 use calls::performing::perform;
+use printout::print_bad;
+use printout::print_line;
+use printout::print_reply;
 use rules::Call;
 use rules::Feed;
 use rules::Places;

@@ -12,7 +12,6 @@ use libc::STDIN_FILENO;
 
 mod cases;
 mod numbers;
-mod printing;
 
 // Answers a line that has ended.
 fn answer_line(line: Line, words: &mut [u32; LINE_WORDS]) {

@@ -1,3 +1,3 @@
-mod AnswerTurns
 pub mod Laws
+mod ServeTurns
 pub mod Talking

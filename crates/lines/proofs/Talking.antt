@@ -12,9 +12,9 @@ use Rattle.text.proofs.Laws.{Holds, holds-first, Found, gather-finds, gather-al
 use Rattle.rules.specs.World.{Sheets}
 use Rattle.reading.specs.Reading.{lineMost}
 use Rattle.reading.proofs.Laws.{read-held}
-use Rattle.lines.specs.Answering.{Left, left, answered, silent}
+use Rattle.answering.specs.Answering.{Left, left, answered, silent}
+use Rattle.answering.specs.declared.State.{State}
 use Rattle.lines.specs.Serving.{served, finished, andThen, talk}
-use Rattle.lines.specs.declared.answering.State.{State}
 
 -- ---- one line
 

@@ -7,8 +7,8 @@ use lib.Dec.{eqb}
 use lib.ListN.{take}
 use Rattle.text.specs.Gathering.{Held}
 use Rattle.rules.specs.World.{Sheets}
-use Rattle.lines.specs.Answering.{Left, left, answered, silent, Says}
-use Rattle.lines.specs.declared.answering.State.{State}
+use Rattle.answering.specs.Answering.{Left, left, answered, silent, Says}
+use Rattle.answering.specs.declared.State.{State}
 use Rattle.lines.specs.declared.serving.Served.{Served}
 
 -- "A line ends at LF": then it is answered

@@ -1,3 +1,2 @@
-// The session program's lines: each answered, wherever the input is cut.
-pub mod answering;
+// The session program's lines: many of them, each answered once, wherever the input is cut.
 pub mod serving;

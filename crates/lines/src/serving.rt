@@ -1,9 +1,9 @@
 // The lines of an input, given in pieces: each is answered as soon as its LF is there, the last one at the end of the input.
-use crate::answering::Answered;
-use crate::answering::OUTPUT;
-use crate::answering::REPLY;
-use crate::answering::State;
-use crate::answering::answer_line;
+use answering::Answered;
+use answering::OUTPUT;
+use answering::REPLY;
+use answering::State;
+use answering::answer_line;
 use reading::BUFFER;
 use text::gathering::take_bytes;
 ghost use Prim.Native.Nat.{_<_};
@@ -11,7 +11,7 @@ ghost use lib.ListN.{length, take, drop};
 ghost use Rattle.text.specs.Gathering.{gather};
 ghost use Rattle.rules.specs.World.{bundle};
 ghost use Rattle.reading.specs.Reading.{lineMost};
-ghost use Rattle.lines.specs.Answering.{answered, Says};
+ghost use Rattle.answering.specs.Answering.{answered, Says};
 ghost use Rattle.lines.specs.Serving.{finished, Serves};
 
 // The state, how many bytes of the next line there are, where the next byte of the input is, and the bytes of the reply.

@@ -1,11 +1,11 @@
 // The session program: lines from standard input, replies to standard output. What a line means and what it is answered
 // is decided in the crates below; here bytes are read, handed on and written.
+use answering::OUTPUT;
+use answering::REPLY;
+use answering::State;
+use answering::new_state;
 use libc::STDIN_FILENO;
 use libc::STDOUT_FILENO;
-use lines::answering::OUTPUT;
-use lines::answering::REPLY;
-use lines::answering::State;
-use lines::answering::new_state;
 use lines::serving::finish;
 use lines::serving::serve;
 use reading::BUFFER;

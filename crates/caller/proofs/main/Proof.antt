@@ -1,9 +1,9 @@
 -- `caller::main` is safe and ends: the chunk keeps its length, and the turns that are left fall.
 -- Assumes nothing.
 use borrow.Author.Needs.{needs}
-use lib.ListN.{length}
-use native.Mathlib.Omega.{arith}
 use mathlib.Core.Path.{_≡_, sym}
+use native.Mathlib.Omega.{arith}
+use lib.ListN.{length}
 use lib.Seq.{length-take-le}
 use Rattle.caller.proofs.main.Statement.{statement}
 use Rattle.caller.proofs.main.Tie as tie

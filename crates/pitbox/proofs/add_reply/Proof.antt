@@ -3,10 +3,10 @@
 use borrow.Author.Needs.{needs}
 use mathlib.Core.Path.{sym}
 use native.Mathlib.Omega.{arith}
-use denote.Ref.{now}
 use lib.Seq.{length-take-le}
 use Rattle.pitbox.proofs.add_reply.Statement.{statement}
 use Rattle.pitbox.proofs.add_reply.Tie as tie
+use denote.Ref.{now}
 
 slice-aggregate-put-text : tie.Need-slice-aggregate-put-text
 slice-aggregate-put-text c =

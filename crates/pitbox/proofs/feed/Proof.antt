@@ -1,13 +1,13 @@
 -- `pitbox::feed` meets its contract: every look at the input gets on, and the replies gathered stay within their buffer.
 -- Assumes nothing.
 use borrow.Author.Needs.{needs}
-use borrow.Author.Tests.{ltb-true}
-use Prim.Native.Nat.{_-_, _≤_, _<_}
-use native.Mathlib.Omega.{arith}
 use mathlib.Core.Bool.{and-eq-true-iff}
 use mathlib.Core.Path.{sym}
+use Prim.Native.Nat.{_-_, _≤_, _<_}
+use native.Mathlib.Omega.{arith}
 use lib.ListN.{length, take}
 use lib.Seq.{length-take-le}
+use borrow.Author.Tests.{ltb-true}
 use Rattle.pitbox.proofs.feed.Statement.{statement}
 use Rattle.pitbox.proofs.feed.Tie as tie
 

@@ -1,8 +1,8 @@
 -- `caller::cases::answer_sheets` is safe and ends: the sheets' words are those of the case behind its head.
 -- Assumes nothing.
 use borrow.Author.Needs.{needs}
-use native.Mathlib.Omega.{arith}
 use mathlib.Core.Path.{sym}
+use native.Mathlib.Omega.{arith}
 use lib.Seq.{length-take-le}
 use Rattle.caller.proofs.cases.answer_sheets.Statement.{statement}
 use Rattle.caller.proofs.cases.answer_sheets.Tie as tie

@@ -1,8 +1,8 @@
 -- `caller::numbers::numbers_of` is safe and ends: the part is taken only where there are as many words.
 -- Assumes nothing.
 use borrow.Author.Needs.{needs}
-use native.Mathlib.Omega.{arith}
 use mathlib.Core.Path.{sym}
+use native.Mathlib.Omega.{arith}
 use lib.Seq.{length-take-le}
 use Rattle.caller.proofs.numbers.numbers_of.Statement.{statement}
 use Rattle.caller.proofs.numbers.numbers_of.Tie as tie

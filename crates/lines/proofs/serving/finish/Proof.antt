@@ -2,7 +2,7 @@
 -- Assumes nothing.
 use borrow.Author.Needs.{needs}
 use borrow.Author.Tests.{eq-eqb, ne-eqb}
-use Rattle.lines.proofs.AnswerTurns.{says-nothing}
+use Rattle.answering.proofs.Turns.{says-nothing}
 use Rattle.lines.proofs.serving.finish.Statement.{statement}
 use Rattle.lines.proofs.serving.finish.Tie as tie
 

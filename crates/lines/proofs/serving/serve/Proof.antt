@@ -6,7 +6,7 @@ use native.Mathlib.Omega.{arith}
 use lib.ListN.{length}
 use borrow.Author.Tests.{not-true, not-false}
 use Rattle.reading.specs.Reading.{lineMost}
-use Rattle.lines.proofs.AnswerTurns.{serves-bytes, serves-line}
+use Rattle.lines.proofs.ServeTurns.{serves-bytes, serves-line}
 use Rattle.lines.proofs.serving.serve.Statement.{statement}
 use Rattle.lines.proofs.serving.serve.Tie as tie
 
