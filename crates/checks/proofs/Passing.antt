@@ -132,7 +132,7 @@ module _ (w : World) where
   sizes = sizesFit (t .parts) (t .slots) (t .limit) (lengths (w .sheets))
 
   abbrev numbers : Bool
-  numbers = numbersFit (t .limit) (t .clock) (t .a .rows) (t .b .rows) (t .next) (t .lone)
+  numbers = numbersFit t
 
   -- u and v are what the two tests were found to be
   module _ (u : Bool) (e : u ≡ sizes) where

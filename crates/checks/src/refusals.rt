@@ -1,6 +1,5 @@
 // When the box says no: the checks that need no look at the rows.
 use crate::feeds::feed_of;
-use rules::Places;
 use rules::Session;
 use rules::Verdict;
 use rules::Why;
@@ -33,14 +32,19 @@ pub fn sizes_fit(parts: u32, slots: u32, limit: u32, a: &[u32], b: &[u32], probe
         & (lists <= probe.len())
 }
 
-fn numbers_fit(limit: u32, clock: u32, a_rows: u32, b_rows: u32, next: u32, lone: Places) -> bool
-    ensures { λ r. ⌜ r ≡ numbersFit limit clock «a_rows» «b_rows» next lone ⌝ }
+// No number of the record is above its limit.
+fn numbers_fit(session: Session) -> bool
+    ensures { λ r. ⌜ r ≡ numbersFit session ⌝ }
 {
+    let limit = session.limit;
+    let a_rows = session.a.rows;
+    let b_rows = session.b.rows;
+    let lone = session.lone;
     let pairs = (a_rows as u64) * (b_rows as u64);
     (a_rows <= limit)
         & (b_rows <= limit)
-        & (clock <= 16384)
-        & ((next as u64) <= pairs)
+        & (session.clock <= 16384)
+        & ((session.next as u64) <= pairs)
         & (lone.a <= a_rows)
         & (lone.b <= b_rows)
 }
@@ -65,14 +69,7 @@ pub fn session_fits(session: Session, a: &[u32], b: &[u32], probe: &[u32]) -> bo
 {
     let parts = session.parts;
     if sizes_fit(parts, session.slots, session.limit, a, b, probe) {
-        if numbers_fit(
-            session.limit,
-            session.clock,
-            session.a.rows,
-            session.b.rows,
-            session.next,
-            session.lone,
-        ) {
+        if numbers_fit(session) {
             let counts = session.counts;
             return counts_fit(&counts, 2 * (parts as usize));
         }

@@ -58,8 +58,8 @@ unfolding sessionFits
 fits-are w h =
     let t = w .session in
     let p = both (sizesFit (t .parts) (t .slots) (t .limit) (lengths (w .sheets))) _ h in
-    let q = both (numbersFit (t .limit) (t .clock) (t .a .rows) (t .b .rows) (t .next) (t .lone)) (countsFit (t .counts) (2 * t .parts)) (p .1) in
-    let e : Each (numberTests (t .limit) (t .clock) (t .a .rows) (t .b .rows) (t .next) (t .lone)) = each (numberTests (t .limit) (t .clock) (t .a .rows) (t .b .rows) (t .next) (t .lone)) (q .0) in
+    let q = both (numbersFit t) (countsFit (t .counts) (2 * t .parts)) (p .1) in
+    let e : Each (numberTests t) = each (numberTests t) (q .0) in
     record {
       sizes = sizes-are _ _ _ _ (p .0);
       a-few = omega (arith, tests);

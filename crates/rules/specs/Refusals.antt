@@ -17,7 +17,6 @@ use Rattle.sheets.specs.Rows.{spooled, spooledRows, rowsInMemory, Held, heldIn,
 use Rattle.sheets.specs.declared.rows.Victim.{Victim}
 use Rattle.pairs.specs.Pairs.{arrivalPairs, tried}
 use Rattle.rules.specs.World.{World, Lent, Lengths, pick, countOf, rowsOf, sideOf, seenFrom, flush, lengths}
-use Rattle.rules.specs.declared.Places.{Places}
 use Rattle.rules.specs.declared.Session.{Session}
 use Rattle.rules.specs.declared.Call.{Call}
 use Rattle.rules.specs.declared.Call.the-variants.{Arrive, Evict, Run, Close, Drain, Lone}
@@ -60,13 +59,19 @@ abbrev pub sizesFit : ℕ → ℕ → ℕ → Lengths → Bool
 sizesFit p m n k = allOf (sizeTests p m n k)
 
 -- "a row count above N; clock above 16384; .. position above A rows x B rows", a position of the lone calls "above its row count"
-abbrev pub numberTests : ℕ → ℕ → ℕ → ℕ → ℕ → Places → List Bool
-numberTests n clock rowsA rowsB next lone =
-    leb rowsA n ∷ leb rowsB n ∷ leb clock 16384 ∷ leb next (rowsA * rowsB) ∷ leb (lone .a) rowsA ∷ leb (lone .b) rowsB ∷ []
+abbrev pub numberTests : Session → List Bool
+numberTests t =
+    leb (t .a .rows) (t .limit)
+    ∷ leb (t .b .rows) (t .limit)
+    ∷ leb (t .clock) 16384
+    ∷ leb (t .next) (t .a .rows * t .b .rows)
+    ∷ leb (t .lone .a) (t .a .rows)
+    ∷ leb (t .lone .b) (t .b .rows)
+    ∷ []
 
 -- all of these
-abbrev pub numbersFit : ℕ → ℕ → ℕ → ℕ → ℕ → Places → Bool
-numbersFit n clock rowsA rowsB next lone = allOf (numberTests n clock rowsA rowsB next lone)
+abbrev pub numbersFit : Session → Bool
+numbersFit t = allOf (numberTests t)
 
 -- "an entry count above 32", of the first n lists
 abbrev pub countsFit : List ℕ → ℕ → Bool
@@ -77,7 +82,7 @@ countsFit counts (suc n) = countsFit counts n && leb (getD counts n 0) 32
 unfoldable pub sessionFits : World → Bool
 sessionFits w = let t = w .session in
     sizesFit (t .parts) (t .slots) (t .limit) (lengths (w .sheets))
-    && (numbersFit (t .limit) (t .clock) (t .a .rows) (t .b .rows) (t .next) (t .lone) && countsFit (t .counts) (2 * t .parts))
+    && (numbersFit t && countsFit (t .counts) (2 * t .parts))
 
 -- ---- an arrival
 

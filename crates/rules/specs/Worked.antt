@@ -14,7 +14,7 @@ use Rattle.sheets.specs.Lists.{entries, listOf, probedAt}
 use Rattle.sheets.specs.Rows.{leave, largestPart, victim}
 use Rattle.pairs.specs.Pairs.{arrivalPairs, isDue, tried, duePairs, dueFrom, pairsAt}
 use Rattle.rules.specs.Answers.{pairsOf}
-use Rattle.rules.specs.World.{World, given, bundle, flush, store, note, shut, move, world, withClock, withFeed, withCounts}
+use Rattle.rules.specs.World.{World, given, bundle, flush, store, note, shut, move, world, withClock, withFeed, withCounts, Sheets, withRows, withProbe}
 use Rattle.rules.specs.Refusals.{verdict, sessionFits, roomFor, ownChecks}
 use Rattle.rules.specs.Calls.{After, fresh, joins, arrives, evicts, runs, drains, effect, afterCall}
 use Rattle.rules.specs.declared.Call.{Call}
@@ -46,9 +46,13 @@ passing lap = record { heat = 1; car = 7; lap = lap }
 abbrev pub key : ℕ → ℕ
 key lap = 1007000 + lap
 
--- START,2,3,8 on sheets of zeros
+-- sheets of zeros for P = 2 and N = 8
+abbrev pub blank : Sheets
+blank = bundle (replicate (rowsNeed 8) 0) (replicate (rowsNeed 8) 0) (replicate (probeNeed 2) 0)
+
+-- START,2,3,8 on them
 unfoldable pub started : Played
-started = record { world = world (fresh 2 3 8) (bundle (replicate (rowsNeed 8) 0) (replicate (rowsNeed 8) 0) (replicate (probeNeed 2) 0)); answers = []; pairs = [] }
+started = record { world = world (fresh 2 3 8) blank; answers = []; pairs = [] }
 
 -- a source with so many rows, still open
 abbrev pub fed-by : ℕ → Feed
@@ -80,7 +84,7 @@ drained p = ask 1 Drain (ask 1 Drain (ask 4 (Close B) (ask 4 (Close A) p)))
 abbrev pub stage : ℕ → List ℕ → List ℕ → List ℕ → List ℕ → ℕ → List Answer → List Told → Played
 stage clock a b counts entry rowsA answers pairs = record {
   world = world (withClock clock (withFeed A (fed-by rowsA) (withFeed B (fed-by 3) (withCounts counts (fresh 2 3 8)))))
-      (bundle (a ++ replicate (rowsNeed 5) 0) (b ++ replicate (rowsNeed 5) 0) (entry ++ replicate 254 0));
+      (withRows (a ++ replicate (rowsNeed 5) 0) (b ++ replicate (rowsNeed 5) 0) (withProbe (entry ++ replicate 254 0) blank));
   answers = answers;
   pairs = pairs;
 }

@@ -221,8 +221,9 @@ pub fn arrive(
             let room = find_room(session, a, b);
             let n = count_pairs(session, source, item, room, a, b);
             if room_of(out.len()) < n {
+                let need = n as u32;
                 return Reply {
-                    answer: Answer::Refused(Why::RoomShort(n as u32)),
+                    answer: Answer::Refused(Why::RoomShort(need)),
                     session,
                 };
             }

@@ -8,10 +8,12 @@ use Rattle.checks.proofs.refusals.numbers_fit.Statement.{statement}
 use Rattle.checks.proofs.refusals.numbers_fit.Tie as tie
 
 mul-pairs : tie.Need-mul-pairs
-mul-pairs c = omega (arith, product-fits (c .args .a-rows) (c .args .b-rows) (search needs) (search needs))
+mul-pairs c =
+    let entry = c .before in
+    omega (arith, product-fits (entry .args .session .a .rows) (entry .args .session .b .rows) (search needs) (search needs))
 
 returns : tie.Need-returns
 returns c = simp and-assoc
 
 pub numbers-fit-spec : {M : Type 1} → statement M
-numbers-fit-spec = tie.close (tie.spec mul-pairs returns)
+numbers-fit-spec = tie.close (tie.spec (λ c. search needs) (λ c. search needs) mul-pairs (λ c. search needs) returns)

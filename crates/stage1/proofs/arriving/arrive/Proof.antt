@@ -23,8 +23,8 @@ count-pairs-requires c κs =
     let entry = at-session-fits .before .before .before .before .before .before .before in
     row-space (world (entry .args .session) (bundle (entry .args .a .now) (entry .args .b .now) (entry .args .probe .now))) (at-session-fits .session-fits .result) (at-session-fits .session-fits .ensures) (entry .args .source) (entry .args .message) (at-admit .admit .result) (at-admit .admit .ensures) _ (at-item .item .given .1) .rows
 
-cast-t31 : tie.Need-cast-t31
-cast-t31 c = omega (arith, c .before .before .count-pairs .ensures .1)
+cast-need : tie.Need-cast-need
+cast-need c = omega (arith, c .before .before .count-pairs .ensures .1)
 
 returns : tie.Need-returns
 returns c =
@@ -80,7 +80,7 @@ arrive-spec =
     find-room-requires
     count-pairs-requires
     (λ c κs. search needs)
-    cast-t31
+    cast-need
     (λ c. search needs)
     (λ c. search needs)
     returns
