@@ -1,4 +1,6 @@
 // One line answered: what it asks for is done on the lent sheets, and its reply is put into a lent buffer.
+#![tactic(auto)]
+
 ghost use Rattle.std.specs.Prelude.{◌≡◌, ◌≤◌, length};
 ghost use Rattle.rules.specs.World.{bundle};
 ghost use Rattle.rules.specs.Answers.{written_of, refused};
@@ -19,21 +21,21 @@ pub const OUTPUT: usize = ROOM as usize * PAIR;
 pub const REPLY: usize = 38 * ROOM as usize + 25;
 
 // Whether a START was accepted, and the session that it began.
-#[derive(Drop)]
+#[derive(Clone, Copy)]
 pub struct State {
     pub started: bool,
     pub session: Session,
 }
 
 // What a line is told, and the state after it.
-#[derive(Drop)]
+#[derive(Clone, Copy)]
 struct Outcome {
     answer: Answer,
     state: State,
 }
 
 // The state after a line, and the bytes of its reply.
-#[derive(Drop)]
+#[derive(Clone, Copy)]
 pub struct Answered {
     pub state: State,
     pub bytes: usize,

@@ -1,6 +1,8 @@
 // The call program, for tests: each line of standard input is a call with a record and sheets, all as numbers. It performs the
 // call by crates/calls and prints the answer, the record and every word of every sheet, so that any record and any sheet can
 // be tried. A line that is no case is answered by BAD. A line ends at LF or at the end of the input, an empty rest giving none.
+#![tactic(auto)]
+
 use crate::cases::{LINE_WORDS, answer_case};
 use crate::numbers::{Line, end_number, new_line, numbers_of, take_byte};
 use libc::STDIN_FILENO;

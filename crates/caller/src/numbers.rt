@@ -5,7 +5,7 @@ const MOST_WORD: u64 = 4294967295;
 
 // How many numbers are whole, whether one is begun and its value so far, and whether the line has any byte and can still be
 // read.
-#[derive(Drop)]
+#[derive(Clone, Copy)]
 pub struct Line {
     pub count: usize,
     pub inside: bool,

@@ -120,7 +120,7 @@ pub fn check_drain(session: Session, room: usize, fits: bool) -> Verdict
 }
 
 // What the checks of an arrival find before its pairs are counted.
-#[derive(Drop)]
+#[derive(Clone, Copy)]
 pub enum Admission {
     Take(Item),
     Deny(Why),

@@ -11,7 +11,7 @@ use reading::BUFFER;
 use text::gathering::take_bytes;
 
 // The state, how many bytes of the next line there are, where the next byte of the input is, and the bytes of the reply.
-#[derive(Drop)]
+#[derive(Clone, Copy)]
 pub struct Served {
     pub state: State,
     pub have: usize,

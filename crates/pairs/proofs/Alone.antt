@@ -10,7 +10,7 @@ use lib.Dec.{ltb, leb, eqb}
 use lib.ListN.{take, drop}
 use borrow.Author.Tests.{lt-ltb, le-ltb, eqb-true, eq-eqb}
 use Rattle.stamps.specs.Counting.{bit, span, count}
-use Rattle.stamps.specs.Counting.Laws.{tests, count-keep, keep_cong}
+use Rattle.stamps.proofs.CountingLaws.{tests, count-keep, keep_cong}
 use Rattle.sheets.specs.Layout.{Single}
 use Rattle.pairs.specs.Lones.{Items, is_lone, lones, number, lones_from, single, is_single, same_single, listings, unlisted}
 use Rattle.pairs.specs.Rooms.{onward}

@@ -14,11 +14,11 @@ use Rattle.stamps.specs.declared.Item.{Item}
 use Rattle.stamps.specs.declared.Row.{Row}
 use Rattle.stamps.specs.declared.Entry.{Entry}
 use Rattle.stamps.specs.Counting.{bit, tally, up_to, span}
-use Rattle.stamps.specs.Counting.Laws.{tests, both, and_cong, tally_cong, tally_mono, le_top, top_le}
+use Rattle.stamps.proofs.CountingLaws.{tests, both, and_cong, tally_cong, tally_mono, le_top, top_le}
 use Rattle.stamps.specs.Keys.{items_match, part_of}
-use Rattle.stamps.specs.Keys.Laws.{match_comm}
+use Rattle.stamps.proofs.KeysLaws.{match_comm}
 use Rattle.stamps.specs.Stamps.{in_memory, stamp, done_before}
-use Rattle.stamps.specs.Stamps.Laws.{Below, alive-now, Kept, kept_refl, kept-stamp, done-kept, done-swap, done_new, done_entry}
+use Rattle.stamps.proofs.StampsLaws.{Below, alive-now, Kept, kept_refl, kept-stamp, done-kept, done-swap, done_new, done_entry}
 use Rattle.sheets.specs.Layout.{Told, Pair}
 use Rattle.sheets.specs.Rows.{hot, spooled, memory_rows, portion_rows, latest, flushed}
 use Rattle.sheets.proofs.Laws.{flushed_memory}

@@ -13,7 +13,7 @@ use Rattle.stamps.specs.declared.Source.TheVariants.{A, B}
 use Rattle.stamps.specs.declared.Item.{Item}
 use Rattle.stamps.specs.declared.Row.{Row}
 use Rattle.stamps.specs.Counting.{bit, span, keep, count}
-use Rattle.stamps.specs.Counting.Laws.{tests, count-append, count-keep}
+use Rattle.stamps.proofs.CountingLaws.{tests, count-append, count-keep}
 use Rattle.sheets.specs.Layout.{Pair, Told, shows, same_shown, tell}
 use Rattle.pairs.specs.Joins.{inside, same, times}
 use Rattle.pairs.specs.Pairs.{Table, across, down, every, met, arrival_pairs, wanted, wanted_pairs, tell_all, told}

@@ -13,9 +13,9 @@ use lib.Seq.{take-nil}
 use borrow.Author.Tests.{le-ltb}
 use Rattle.stamps.specs.declared.Source.{Source}
 use Rattle.stamps.specs.Counting.{span, keep}
-use Rattle.stamps.specs.Counting.Laws.{keep_append, keep-map, length-keep, span_step, span_end}
+use Rattle.stamps.proofs.CountingLaws.{keep_append, keep-map, length-keep, span_step, span_end}
 use Rattle.sheets.specs.Layout.{put_pair, Pair, tell}
-use Rattle.sheets.specs.Layout.Laws.{length-put_pair}
+use Rattle.sheets.proofs.LayoutLaws.{length-put_pair}
 use Rattle.pairs.specs.Pairs.{Table, across, down, position, wanted, wanted_pairs, tell_of, NextIs, left_rows, left_from, SpotIs, Writes}
 use Rattle.pairs.specs.declared.walks.Scope.{Scope}
 use Rattle.pairs.proofs.Laws.{length-across, length-down, product_few}

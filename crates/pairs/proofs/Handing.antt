@@ -12,7 +12,7 @@ use lib.ListN.{length, length-map, take, drop}
 use lib.Seq.{take-nil, drop-nil}
 use borrow.Author.Tests.{lt-ltb, le-ltb, lt-leb, le-leb}
 use Rattle.stamps.specs.Counting.{bit, keep, count, missing_in}
-use Rattle.stamps.specs.Counting.Laws.{tests, keep-map, count-keep, keep_cong}
+use Rattle.stamps.proofs.CountingLaws.{tests, keep-map, count-keep, keep_cong}
 use Rattle.pairs.specs.Rooms.{on_from, past, onward, put_all, read_all}
 
 -- ---- in an output

@@ -12,12 +12,12 @@ use borrow.Author.Tests.{eq-eqb, ne_eqb}
 use Rattle.stamps.specs.declared.Item.{Item}
 use Rattle.stamps.specs.declared.Row.{Row}
 use Rattle.stamps.specs.Counting.{tally, span, keep}
-use Rattle.stamps.specs.Counting.Laws.{length-keep, length-span, length-kept, keep-map, keep-keep, keep_append}
+use Rattle.stamps.proofs.CountingLaws.{length-keep, length-span, length-kept, keep-map, keep-keep, keep_append}
 use Rattle.stamps.specs.Keys.{items_match, part_of}
-use Rattle.stamps.specs.Keys.Laws.{match_part}
+use Rattle.stamps.proofs.KeysLaws.{match_part}
 use Rattle.stamps.specs.Stamps.{in_memory}
 use Rattle.sheets.specs.Layout.{pairs_need, pair_at, put_pair, singles_need, single_at, put_single, Pair}
-use Rattle.sheets.specs.Layout.Laws.{length-put_pair, pair_same, pair_other, length-put_single, single_same, single_other}
+use Rattle.sheets.proofs.LayoutLaws.{length-put_pair, pair_same, pair_other, length-put_single, single_same, single_other}
 use Rattle.sheets.specs.Rows.{spooled, flushed, spooled_rows, rows_in_memory}
 use Rattle.sheets.proofs.Laws.{flushed_item, flushed_memory}
 use Rattle.pairs.specs.Pairs.{Table, across, down, every, position, wanted, met, arrival_pairs, wanted_pairs, pairs_from, matches, done, beside, grid, tried, is_due, due_pairs, due_from, row_a, row_b}

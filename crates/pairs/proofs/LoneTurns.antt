@@ -11,10 +11,10 @@ use lib.Dec.{leb}
 use lib.ListN.{length}
 use borrow.Author.Tests.{le-leb, lt-leb, eq-eqb, ne_eqb}
 use Rattle.stamps.specs.Counting.{tally, span, keep}
-use Rattle.stamps.specs.Counting.Laws.{keep_comm, tally_mono, length-keep, length-span, span_step, span_end, span_all, span_skip}
+use Rattle.stamps.proofs.CountingLaws.{keep_comm, tally_mono, length-keep, length-span, span_step, span_end, span_all, span_skip}
 use Rattle.stamps.specs.Keys.{items_match}
 use Rattle.sheets.specs.Layout.{put_single}
-use Rattle.sheets.specs.Layout.Laws.{length-put_single}
+use Rattle.sheets.proofs.LayoutLaws.{length-put_single}
 use Rattle.pairs.specs.Lones.{Items, is_lone, lones, number, lones_from, single, Lists}
 use Rattle.pairs.specs.Pairs.{NextIs}
 use Rattle.pairs.specs.Rooms.{on_from}

@@ -15,13 +15,13 @@ use Rattle.stamps.specs.declared.Item.{Item}
 use Rattle.stamps.specs.declared.Row.{Row}
 use Rattle.stamps.specs.declared.Entry.{Entry}
 use Rattle.stamps.specs.Counting.{tally, span, keep}
-use Rattle.stamps.specs.Counting.Laws.{tests, and_cong, tally_cong, span_step, span_end, span_skip}
+use Rattle.stamps.proofs.CountingLaws.{tests, and_cong, tally_cong, span_step, span_end, span_skip}
 use Rattle.stamps.specs.Keys.{items_match, part_of}
-use Rattle.stamps.specs.Keys.Laws.{match_part}
+use Rattle.stamps.proofs.KeysLaws.{match_part}
 use Rattle.stamps.specs.Sources.{other}
 use Rattle.stamps.specs.Stamps.{done_before}
 use Rattle.sheets.specs.Layout.{pairs_need, row_at, list_no, put_pair, Pair, tell}
-use Rattle.sheets.specs.Layout.Laws.{length-put_pair}
+use Rattle.sheets.proofs.LayoutLaws.{length-put_pair}
 use Rattle.sheets.specs.Rows.{flushed}
 use Rattle.sheets.specs.Lists.{entries, list_of}
 use Rattle.sheets.specs.declared.lists.ProbeList.{ProbeList}

@@ -9,7 +9,7 @@ use native.Mathlib.Omega.{arith}
 use lib.Dec.{leb}
 use borrow.Author.Tests.{le-leb, lt-leb}
 use Rattle.stamps.specs.Counting.{span, keep}
-use Rattle.stamps.specs.Counting.Laws.{keep_append, keep_comm, keep-map, span_all, span_skip}
+use Rattle.stamps.proofs.CountingLaws.{keep_append, keep_comm, keep-map, span_all, span_skip}
 use Rattle.stamps.specs.declared.Source.{Source}
 use Rattle.sheets.specs.Layout.{Pair}
 use Rattle.pairs.specs.Pairs.{Table, across, down, every, position, wanted, wanted_pairs, pairs_from, left_rows, left_from, Writes}

@@ -11,9 +11,9 @@ use lib.ListN.{take, drop}
 use borrow.Author.Tests.{lt-ltb, le-ltb}
 use Rattle.stamps.specs.declared.Source.TheVariants.{A}
 use Rattle.stamps.specs.Counting.{bit, keep, count}
-use Rattle.stamps.specs.Counting.Laws.{tests, both, keep-keep, count-keep, keep_cong}
+use Rattle.stamps.proofs.CountingLaws.{tests, both, keep-keep, count-keep, keep_cong}
 use Rattle.sheets.specs.Layout.{Told, Pair}
-use Rattle.sheets.specs.Layout.Laws.{shown_own}
+use Rattle.sheets.proofs.LayoutLaws.{shown_own}
 use Rattle.pairs.specs.Joins.{inside, numbers, is_pair, join, same, times, missing}
 use Rattle.pairs.specs.Pairs.{Table, across, down, every, position, tell_of, told, matches, done, is_due, due_pairs, due_from}
 use Rattle.pairs.specs.Rooms.{onward}

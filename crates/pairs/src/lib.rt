@@ -1,4 +1,6 @@
 // The walks: pairs and rows without partner, looked for in the sheets and written.
+#![tactic(auto)]
+
 pub mod arrivals;
 pub mod lones;
 pub mod rooms;

@@ -1,7 +1,7 @@
 // A list handed out in rooms, by drains and by lone calls.
 
 // What was written, whether any remain, and the position after them.
-#[derive(Drop)]
+#[derive(Clone, Copy)]
 pub struct Written {
     pub count: usize,
     pub more: bool,

@@ -12,14 +12,14 @@ use sheets::lists::{ProbeList, done_before, list_of};
 use stamps::{Item, Row, Source};
 
 // The pairs looked at: all, as a drain does, or the spooled rows of a portion with memory rows, as a run does.
-#[derive(Drop)]
+#[derive(Clone, Copy)]
 pub enum Scope {
     All,
     Portion(u32),
 }
 
 // The source that goes first, the rows of it and of the source that faces it, the partitions, the pairs looked at.
-#[derive(Drop)]
+#[derive(Clone, Copy)]
 pub struct Job {
     pub source: Source,
     pub rows: usize,
@@ -29,7 +29,7 @@ pub struct Job {
 }
 
 // A row of the first source, and a row of the one that faces it.
-#[derive(Drop)]
+#[derive(Clone, Copy)]
 pub struct Spot {
     pub row: usize,
     pub facing: usize,

@@ -1,5 +1,7 @@
 // The session program: lines from standard input, replies to standard output. What a line means and what it is answered
 // is decided in the crates below; here bytes are read, handed on and written.
+#![tactic(auto)]
+
 ghost use Rattle.std.specs.Prelude.{◌≤◌, length};
 
 use answering::{OUTPUT, REPLY, State, new_state};
@@ -20,7 +22,7 @@ const INPUT: usize = 65536;
 const TEXT: usize = 65536;
 
 // What is carried from one read to the next: the state, the line that is begun, and whether to go on.
-#[derive(Drop)]
+#[derive(Clone, Copy)]
 struct Going {
     state: State,
     line: [u8; BUFFER],
@@ -29,7 +31,7 @@ struct Going {
 }
 
 // The bytes of the replies gathered, and whether those before them could be written.
-#[derive(Drop)]
+#[derive(Clone, Copy)]
 struct Filled {
     end: usize,
     on: bool,

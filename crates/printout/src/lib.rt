@@ -1,4 +1,6 @@
 // What is printed: an answer, a session record and every word of the sheets, each as a line of a word and numbers.
+#![tactic(auto)]
+
 ghost use Rattle.std.specs.Prelude.{◌+◌, ◌≤◌, ◌<◌, length};
 ghost use Rattle.printout.specs.Pieces.{piece_most};
 
@@ -13,7 +15,7 @@ const PIECE: usize = 256;
 const TEXT: usize = 11 * PIECE;
 
 // An answer's kind by number, and its own number; a refusal's is its code.
-#[derive(Drop)]
+#[derive(Clone, Copy)]
 struct Told {
     kind: u32,
     n: u32,

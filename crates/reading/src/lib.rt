@@ -1,4 +1,6 @@
 // What a line asks for: its word, then the count of its fields and their kinds.
+#![tactic(auto)]
+
 ghost use Rattle.std.specs.Prelude.{◌≡◌};
 ghost use Rattle.text.specs.Fields.{fields};
 ghost use Rattle.reading.specs.Reading.{number_at, side_at, three_of, start_line, arrive_line, sourced_of, evict_line, run_line, close_line, drain_line, lone_line, read_line};
@@ -25,7 +27,7 @@ pub const ROOM: u32 = 512;
 
 // An opening with P, M and N; a call; a drain, or a source whose rows without partner are listed, with the room that is named;
 // or a line that says nothing.
-#[derive(Drop)]
+#[derive(Clone, Copy)]
 pub enum Line {
     Start(u32, u32, u32),
     Ask(Call),
@@ -35,14 +37,14 @@ pub enum Line {
 }
 
 // The three numbers after a word: P, M and N, or a heat, a car and a lap.
-#[derive(Drop)]
+#[derive(Clone, Copy)]
 enum Three {
     Of(u32, u32, u32),
     Bad,
 }
 
 // A source and the number after it: a partition of it, or a room.
-#[derive(Drop)]
+#[derive(Clone, Copy)]
 enum Sourced {
     Of(Source, u32),
     Bad,

@@ -6,14 +6,14 @@ use stamps::Source;
 use text::comparing::is_same;
 
 // "A source is A or B."
-#[derive(Drop)]
+#[derive(Clone, Copy)]
 pub enum Side {
     Of(Source),
     Neither,
 }
 
 // The first field of a line; A and B are the words of an arrival.
-#[derive(Drop)]
+#[derive(Clone, Copy)]
 pub enum Word {
     Start,
     Arrive(Source),

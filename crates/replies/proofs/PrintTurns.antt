@@ -7,7 +7,7 @@ use native.Mathlib.Omega.{arith}
 use lib.ListN.{length}
 use Rattle.text.specs.Putting.{row_in, rows_in}
 use Rattle.text.proofs.PutTurns.{row_fits}
-use Rattle.sheets.specs.Layout.Laws.{pair_read, single-read}
+use Rattle.sheets.proofs.LayoutLaws.{pair_read, single-read}
 use Rattle.sheets.specs.Layout.{pairs_need, pair_at, pair_words, singles_need, single_at, single_words}
 use Rattle.pairs.specs.Rooms.{read_all}
 

@@ -1,4 +1,6 @@
 // What an answer is printed as, as bytes in a lent buffer. Each function that puts a text answers the place after it.
+#![tactic(auto)]
+
 ghost use Rattle.std.specs.Prelude.{◌≡◌, ◌+◌, ◌≤◌, length};
 ghost use Rattle.text.specs.Putting.{Put};
 ghost use Rattle.sheets.specs.Layout.{pairs_need, singles_need};
@@ -27,7 +29,7 @@ pub fn code_of(why: Why) -> u32
 }
 
 // The count that a refusal names, where it names one.
-#[derive(Drop)]
+#[derive(Clone, Copy)]
 enum Need {
     Count(u32),
     Nothing,
@@ -62,7 +64,7 @@ fn put_no(buf: &mut [u8], at: usize, why: Why) -> usize
 }
 
 // How an answer is said.
-#[derive(Drop)]
+#[derive(Clone, Copy)]
 enum Saying {
     Ok(u32),
     Done(u32),

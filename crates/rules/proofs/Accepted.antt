@@ -8,7 +8,7 @@ use native.Mathlib.Omega.{arith}
 use lib.ListN.{length}
 use borrow.Author.Tests.{lt-ltb, eq-eqb, ne_eqb}
 use Rattle.stamps.specs.Counting.{values}
-use Rattle.stamps.specs.Counting.Laws.{values_cong}
+use Rattle.stamps.proofs.CountingLaws.{values_cong}
 use Rattle.stamps.specs.Keys.{item_of}
 use Rattle.stamps.specs.Sources.{other}
 use Rattle.stamps.specs.declared.Source.{Source}

@@ -7,7 +7,7 @@ use Prim.Native.Nat.{ℕ, zero, suc, ◌*◌, ◌≤◌, ◌<◌}
 use native.Mathlib.Omega.{arith}
 use lib.Dec.{leb}
 use lib.ListN.{get_or}
-use Rattle.stamps.specs.Counting.Laws.{tests, one_more, both, Each, each}
+use Rattle.stamps.proofs.CountingLaws.{tests, one_more, both, Each, each}
 use Rattle.sheets.specs.Layout.{rows_need, probe_need}
 use Rattle.rules.specs.Refusals.{between, size_tests, sizes_fit, number_tests, numbers_fit, counts_fit, session_fits}
 use Rattle.rules.specs.World.{lengths, World, Lengths}

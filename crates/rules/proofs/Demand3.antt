@@ -9,15 +9,15 @@ use lib.Dec.{ltb}
 use lib.ListN.{length, drop, length-map}
 use borrow.Author.Tests.{lt-ltb}
 use Rattle.stamps.specs.Counting.{bit}
-use Rattle.stamps.specs.Counting.Laws.{both, half_le}
+use Rattle.stamps.proofs.CountingLaws.{both, half_le}
 use Rattle.stamps.specs.Keys.{item_of, items_match}
 use Rattle.stamps.specs.Stamps.{in_memory}
-use Rattle.stamps.specs.Stamps.Laws.{done_memory}
+use Rattle.stamps.proofs.StampsLaws.{done_memory}
 use Rattle.stamps.specs.declared.Source.{Source}
 use Rattle.stamps.specs.declared.Source.TheVariants.{A, B}
 use Rattle.stamps.specs.declared.Item.{Item}
 use Rattle.sheets.specs.Layout.{Told, room_of}
-use Rattle.sheets.specs.Layout.Laws.{shown_own}
+use Rattle.sheets.proofs.LayoutLaws.{shown_own}
 use Rattle.pairs.specs.Joins.{inside, numbers, is_pair, times}
 use Rattle.pairs.specs.Pairs.{position, tell_of, told, done}
 use Rattle.pairs.proofs.Rises.{missing-owed, drain-parts, owed-after, position-inside}

@@ -10,7 +10,7 @@ use lib.Dec.{eqb}
 use lib.ListN.{length, get_or, set}
 use lib.Seq.{get_or-set_same, get_or-set_other}
 use borrow.Author.Tests.{le-leb, eqb-true}
-use Rattle.stamps.specs.Counting.Laws.{tests, eqb_ne}
+use Rattle.stamps.proofs.CountingLaws.{tests, eqb_ne}
 use Rattle.stamps.specs.Sources.{other}
 use Rattle.stamps.specs.declared.Source.{Source}
 use Rattle.stamps.specs.declared.Source.TheVariants.{A, B}

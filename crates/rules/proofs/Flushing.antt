@@ -5,7 +5,7 @@ use Prim.Native.Nat.{ℕ, ◌+◌, ◌≤◌, ◌<◌}
 use lib.ListN.{length}
 use borrow.Author.Tests.{lt-ltb}
 use Rattle.stamps.specs.Counting.{up_to}
-use Rattle.stamps.specs.Counting.Laws.{tally_le, length-kept}
+use Rattle.stamps.proofs.CountingLaws.{tally_le, length-kept}
 use Rattle.stamps.specs.Sources.{other}
 use Rattle.stamps.specs.declared.Source.{Source}
 use Rattle.stamps.specs.declared.Source.TheVariants.{A, B}

@@ -8,9 +8,9 @@ use Prim.Native.Nat.{ℕ, zero, suc, ◌<◌}
 use native.Mathlib.Omega.{arith}
 use lib.ListN.{length, get_or, length-map, get_or-map}
 use borrow.Author.Tests.{not-false}
-use Rattle.stamps.specs.Counting.Laws.{Each, length-values, values-at}
+use Rattle.stamps.proofs.CountingLaws.{Each, length-values, values-at}
 use Rattle.stamps.specs.Keys.{in_range, item_of, items_match}
-use Rattle.stamps.specs.Keys.Laws.{match_same}
+use Rattle.stamps.proofs.KeysLaws.{match_same}
 use Rattle.stamps.specs.declared.Source.{Source}
 use Rattle.stamps.specs.declared.Source.TheVariants.{A, B}
 use Rattle.stamps.specs.declared.Item.{Item}

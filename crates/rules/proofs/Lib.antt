@@ -13,3 +13,4 @@ mod Rounds
 mod Seen
 pub mod Settling
 mod Steps
+pub mod Worked

@@ -9,7 +9,7 @@ use lib.Dec.{ltb, eqb, leb-suc-zero}
 use lib.ListN.{length, take, drop, length-take, length-map}
 use borrow.Author.Tests.{not-false}
 use Rattle.stamps.specs.Counting.{bit}
-use Rattle.stamps.specs.Counting.Laws.{half_le, count-append}
+use Rattle.stamps.proofs.CountingLaws.{half_le, count-append}
 use Rattle.stamps.specs.declared.Source.{Source}
 use Rattle.stamps.specs.declared.Source.TheVariants.{A, B}
 use Rattle.sheets.specs.Layout.{Single, Told, singles_need, single_room, single_at, put_single}

@@ -8,7 +8,7 @@ use native.Mathlib.Omega.{arith}
 use lib.Dec.{leb-suc-zero}
 use lib.ListN.{length-replicate, get_or, replicate}
 use Rattle.stamps.specs.Counting.{values}
-use Rattle.stamps.specs.Stamps.Laws.{Below}
+use Rattle.stamps.proofs.StampsLaws.{Below}
 use Rattle.stamps.specs.declared.Source.{Source}
 use Rattle.stamps.specs.declared.Source.TheVariants.{A, B}
 use Rattle.stamps.specs.declared.Entry.{Entry}

@@ -9,7 +9,7 @@ use native.Mathlib.Omega.{arith}
 use lib.Dec.{ltb, leb-suc-zero}
 use lib.ListN.{length, take}
 use Rattle.stamps.specs.Counting.{bit}
-use Rattle.stamps.specs.Counting.Laws.{count-append}
+use Rattle.stamps.proofs.CountingLaws.{count-append}
 use Rattle.stamps.specs.Sources.{other}
 use Rattle.stamps.specs.declared.Source.{Source}
 use Rattle.stamps.specs.declared.Source.TheVariants.{A, B}

@@ -9,7 +9,7 @@ use native.Mathlib.Omega.{arith}
 use lib.Dec.{ltb, leb}
 use lib.ListN.{length, take, drop, length-take, length-drop, length-map}
 use borrow.Author.Tests.{le-leb, lt-leb, ne_eqb}
-use Rattle.stamps.specs.Counting.Laws.{tests}
+use Rattle.stamps.proofs.CountingLaws.{tests}
 use Rattle.sheets.specs.Layout.{Told}
 use Rattle.pairs.proofs.Handing.{take-map}
 use Rattle.rules.specs.Calls.{After, after_call}

@@ -13,7 +13,7 @@ use Rattle.stamps.specs.declared.Item.{Item}
 use Rattle.stamps.specs.declared.Row.{Row}
 use Rattle.stamps.specs.declared.Entry.{Entry}
 use Rattle.sheets.specs.Layout.{rows_need, row_at, put_row, probe_need, list_no}
-use Rattle.sheets.specs.Layout.Laws.{length-put_row, length-put_entry}
+use Rattle.sheets.proofs.LayoutLaws.{length-put_row, length-put_entry}
 use Rattle.sheets.specs.Rows.{portion_rows, flushed}
 use Rattle.sheets.proofs.Laws.{rows-put}
 use Rattle.sheets.proofs.Noted.{list_own, list_facing}

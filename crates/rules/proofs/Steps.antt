@@ -8,7 +8,7 @@ use native.Mathlib.Omega.{arith}
 use lib.Dec.{ltb}
 use lib.ListN.{length, take, length-take}
 use borrow.Author.Tests.{not-false, leb-false, ltb-false}
-use Rattle.stamps.specs.Counting.Laws.{both}
+use Rattle.stamps.proofs.CountingLaws.{both}
 use Rattle.stamps.specs.Keys.{item_of}
 use Rattle.stamps.specs.Sources.{other}
 use Rattle.stamps.specs.declared.Source.{Source}

@@ -96,28 +96,3 @@ abbrev pub run_stage : Played
 run_stage =
     stage 9 (row 12 1 4 ++ row 13 3 0 ++ row 12 9 0) (row 12 2 6 ++ row 13 5 0 ++ row 12 7 8) (1 ∷ replicate 31 0) (4 ∷ 7 ∷ []) 3
     (Taken 0 ∷ Taken 1 ∷ Taken 0 ∷ Taken 1 ∷ Taken 0 ∷ Ran 1 ∷ Ran 0 ∷ Flushed 1 ∷ Taken 0 ∷ []) (told 0 0 12 ∷ told 1 1 13 ∷ told 0 2 12 ∷ [])
-
-fed_is : fed ≡ fed_stage
-unfolding fed started in_range item_of items_match part_of alive present_at together covers used done_before row_at put_row entry_at put_entry shows pair_at put_pair entries list_of probed_at leave largest_part victim arrival_pairs is_due tried due_pairs due_from flush store note shut move verdict session_fits room_for own_checks joins arrives evicts runs drains effect after_call ask play
-fed_is = refl
-
-run_is : run fed_stage ≡ run_stage
-unfolding run in_range item_of items_match part_of alive present_at together covers used done_before row_at put_row entry_at put_entry shows pair_at put_pair entries list_of probed_at leave largest_part victim arrival_pairs is_due tried due_pairs due_from flush store note shut move verdict session_fits room_for own_checks joins arrives evicts runs drains effect after_call ask play
-run_is = refl
-
--- after the five rows RUN,B,0 has nothing to write, and leaves its entry all the same
-quiet_is : let p = ask 4 (Run B 0) fed_stage in (p.answers ≡ fed_stage.answers ++ (Ran 0 ∷ [])) × (p.world.session.counts ≡ 0 ∷ 0 ∷ 1 ∷ replicate 29 0)
-unfolding in_range item_of items_match part_of alive present_at together covers used done_before row_at put_row entry_at put_entry shows pair_at put_pair entries list_of probed_at leave largest_part victim arrival_pairs is_due tried due_pairs due_from flush store note shut move verdict session_fits room_for own_checks joins arrives evicts runs drains effect after_call ask play
-quiet_is = (refl, refl)
-
--- the table is read from the top: a drain with no room, while the sources are open, is StillOpen and not RoomShort
-first_is : (ask 0 Drain fed_stage).answers ≡ fed_stage.answers ++ (Refused StillOpen ∷ [])
-unfolding in_range item_of items_match part_of alive present_at together covers used done_before row_at put_row entry_at put_entry shows pair_at put_pair entries list_of probed_at leave largest_part victim arrival_pairs is_due tried due_pairs due_from flush store note shut move verdict session_fits room_for own_checks joins arrives evicts runs drains effect after_call ask play
-first_is = refl
-
--- and after the drains: four answers and two pairs more, and no word of the sheets changed
-drained_is : ((drained run_stage).answers ≡ run_stage.answers ++ (Shut ∷ Shut ∷ More 1 ∷ Done 1 ∷ []))
-    × ((drained run_stage).pairs ≡ run_stage.pairs ++ (told 2 0 12 ∷ told 2 2 12 ∷ []))
-    × ((drained run_stage).world.sheets ≡ run_stage.world.sheets)
-unfolding drained in_range item_of items_match part_of alive present_at together covers used done_before row_at put_row entry_at put_entry shows pair_at put_pair entries list_of probed_at leave largest_part victim arrival_pairs is_due tried due_pairs due_from flush store note shut move verdict session_fits room_for own_checks joins arrives evicts runs drains effect after_call ask play
-drained_is = (refl, refl, refl)

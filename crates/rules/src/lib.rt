@@ -1,22 +1,24 @@
 // The session record, the calls, and what they answer: the types that the definitions speak of. No code.
+#![tactic(auto)]
+
 use stamps::{Message, Source};
 
 // Of one source: rows accepted, and whether it is closed.
-#[derive(Drop)]
+#[derive(Clone, Copy)]
 pub struct Feed {
     pub rows: u32,
     pub closed: bool,
 }
 
 // Of each source, the position of its lone calls: the rows up to there have been passed.
-#[derive(Drop)]
+#[derive(Clone, Copy)]
 pub struct Places {
     pub a: u32,
     pub b: u32,
 }
 
 // P, M, N, the clock, the two sources, the entry count of each list by its number, the drain position, and those of the lone calls.
-#[derive(Drop)]
+#[derive(Clone, Copy)]
 pub struct Session {
     pub parts: u32,
     pub slots: u32,
@@ -29,7 +31,7 @@ pub struct Session {
     pub lone: Places,
 }
 
-#[derive(Drop)]
+#[derive(Clone, Copy)]
 pub enum Call {
     Arrive(Source, Message),
     Evict(Source, u32),
@@ -40,7 +42,7 @@ pub enum Call {
 }
 
 // Why a call is refused. The last two are the program's.
-#[derive(Drop)]
+#[derive(Clone, Copy)]
 pub enum Why {
     BadSheet,
     BadKey,
@@ -54,7 +56,7 @@ pub enum Why {
     NoStart,
 }
 
-#[derive(Drop)]
+#[derive(Clone, Copy)]
 pub enum Answer {
     Opened,
     Taken(u32),
@@ -69,21 +71,21 @@ pub enum Answer {
 }
 
 // What a call hands back.
-#[derive(Drop)]
+#[derive(Clone, Copy)]
 pub struct Reply {
     pub answer: Answer,
     pub session: Session,
 }
 
 // What the checks of a call find, in their order.
-#[derive(Drop)]
+#[derive(Clone, Copy)]
 pub enum Verdict {
     Good,
     No(Why),
 }
 
 // What has to be flushed for one more row.
-#[derive(Drop)]
+#[derive(Clone, Copy)]
 pub enum Room {
     Enough,
     Flush(Source, u32),

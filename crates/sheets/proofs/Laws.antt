@@ -14,11 +14,11 @@ use Rattle.stamps.specs.declared.Source.TheVariants.{A, B}
 use Rattle.stamps.specs.declared.Row.{Row}
 use Rattle.stamps.specs.declared.Entry.{Entry}
 use Rattle.stamps.specs.Counting.{bit, tally, up_to}
-use Rattle.stamps.specs.Counting.Laws.{tests, one_more, eqb_ne, tally_le, kept_last, length-kept}
+use Rattle.stamps.proofs.CountingLaws.{tests, one_more, eqb_ne, tally_le, kept_last, length-kept}
 use Rattle.stamps.specs.Keys.{part_of}
 use Rattle.stamps.specs.Stamps.{in_memory, stamp}
 use Rattle.sheets.specs.Layout.{rows_need, row_at, put_row, probe_need, list_no, list_need, entry_at, put_entry}
-use Rattle.sheets.specs.Layout.Laws.{length-put_row, row_same, row_other, row_beyond, entry_same, entry_other, row-again}
+use Rattle.sheets.proofs.LayoutLaws.{length-put_row, row_same, row_other, row_beyond, entry_same, entry_other, row-again}
 use Rattle.sheets.specs.Lists.{entries, list_of, probed_at}
 use Rattle.sheets.specs.declared.lists.ProbeList.{ProbeList}
 use Rattle.sheets.specs.Rows.{hot, spooled, memory_rows, portion_rows, latest, flushed, leave, hot_rows}

@@ -1,6 +1,8 @@
+mod ListTurns
+mod RowTurns
 pub mod Counted
 pub mod Laws
-mod ListTurns
+pub mod LayoutLaws
+pub mod LayoutMeaning
 pub mod Noted
-mod RowTurns
 pub mod Victim

@@ -10,7 +10,7 @@ use lib.Dec.{eqb}
 use Rattle.stamps.specs.declared.Row.{Row}
 use Rattle.stamps.specs.declared.Entry.{Entry}
 use Rattle.stamps.specs.Stamps.{covers, used}
-use Rattle.stamps.specs.Stamps.Laws.{used_none, used_snoc}
+use Rattle.stamps.proofs.StampsLaws.{used_none, used_snoc}
 use Rattle.sheets.specs.Layout.{entry_at}
 use Rattle.sheets.specs.Lists.{entries, probed_at}
 use Rattle.sheets.proofs.Laws.{probed_last}

@@ -13,7 +13,7 @@ use Rattle.stamps.specs.declared.Source.{Source}
 use Rattle.stamps.specs.declared.Source.TheVariants.{A, B}
 use Rattle.stamps.specs.declared.Entry.{Entry}
 use Rattle.stamps.specs.Sources.{other}
-use Rattle.stamps.specs.Counting.Laws.{tests, eqb_ne}
+use Rattle.stamps.proofs.CountingLaws.{tests, eqb_ne}
 use Rattle.sheets.specs.Layout.{probe_need, list_no, put_entry}
 use Rattle.sheets.specs.Lists.{entries, list_of}
 use Rattle.sheets.proofs.Laws.{list_small, entries_other, entries_new}

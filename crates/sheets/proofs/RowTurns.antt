@@ -11,11 +11,11 @@ use lib.ListN.{length, get_or, set, replicate}
 use borrow.Author.Tests.{lt-ltb, le-ltb, eqb-true, eqb-false, eq-eqb, ne_eqb}
 use Rattle.stamps.specs.declared.Row.{Row}
 use Rattle.stamps.specs.Counting.{values}
-use Rattle.stamps.specs.Counting.Laws.{tally_le, values-at, values_cong, set_values, length-kept}
+use Rattle.stamps.proofs.CountingLaws.{tally_le, values-at, values_cong, set_values, length-kept}
 use Rattle.stamps.specs.Keys.{part_of}
 use Rattle.stamps.specs.Stamps.{in_memory, stamp}
 use Rattle.sheets.specs.Layout.{row_at, put_row}
-use Rattle.sheets.specs.Layout.Laws.{length-put_row, row-again}
+use Rattle.sheets.proofs.LayoutLaws.{length-put_row, row-again}
 use Rattle.sheets.specs.Rows.{hot, spooled, portion_rows, latest, flushed, Held, first_largest, largest_part, Flushes}
 use Rattle.sheets.proofs.Laws.{row_above, leave_is, lay}
 use Rattle.sheets.proofs.Victim.{first_within}

@@ -10,9 +10,9 @@ use Rattle.stamps.specs.declared.Source.{Source}
 use Rattle.stamps.specs.declared.Source.TheVariants.{A, B}
 use Rattle.stamps.specs.declared.Row.{Row}
 use Rattle.stamps.specs.Counting.{bit}
-use Rattle.stamps.specs.Counting.Laws.{tests, one_more}
+use Rattle.stamps.proofs.CountingLaws.{tests, one_more}
 use Rattle.stamps.specs.Keys.{part_of}
-use Rattle.stamps.specs.Keys.Laws.{part_below}
+use Rattle.stamps.proofs.KeysLaws.{part_below}
 use Rattle.stamps.specs.Stamps.{in_memory}
 use Rattle.sheets.specs.Rows.{memory_rows, portion_rows, Held, held_in, first_largest, largest_part, victim}
 use Rattle.sheets.specs.declared.rows.Victim.{Victim}

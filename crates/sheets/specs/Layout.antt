@@ -6,8 +6,6 @@ use Rattle.stamps.specs.declared.Source.TheVariants.{A, B}
 use Rattle.stamps.specs.declared.Item.{Item}
 use Rattle.stamps.specs.declared.Row.{Row}
 use Rattle.stamps.specs.declared.Entry.{Entry}
-pub mod Meaning
-pub mod Laws
 
 -- ---- rows: "three words a row (key, ATS, DTS), row r at word 3r"
 

@@ -8,7 +8,7 @@ use crate::layout::{entry_at, list_no};
 use stamps::{Row, Source};
 
 // A list's number, and how many entries it has.
-#[derive(Drop)]
+#[derive(Clone, Copy)]
 pub struct ProbeList {
     pub number: usize,
     pub size: usize,

@@ -42,7 +42,7 @@ fn count_portions(sheet: &[u32], rows: usize, parts: u32) -> [usize; 16]
 }
 
 // The portion to flush when memory is full.
-#[derive(Drop)]
+#[derive(Clone, Copy)]
 pub struct Victim {
     pub source: Source,
     pub part: u32,

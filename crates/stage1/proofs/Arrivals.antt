@@ -9,7 +9,7 @@ use native.Mathlib.Numerals.{add-one}
 use lib.ListN.{length}
 use borrow.Author.Tests.{lt-ltb, le-ltb}
 use Rattle.stamps.specs.Counting.{tally}
-use Rattle.stamps.specs.Counting.Laws.{tally_le, tally_cong}
+use Rattle.stamps.proofs.CountingLaws.{tally_le, tally_cong}
 use Rattle.stamps.specs.Keys.{item_of}
 use Rattle.stamps.specs.Sources.{other}
 use Rattle.stamps.specs.declared.Source.{Source}

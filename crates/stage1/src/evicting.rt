@@ -12,7 +12,7 @@ use sheets::rows::flush;
 use stamps::Source;
 
 // The session after a flush, and the rows flushed.
-#[derive(Drop)]
+#[derive(Clone, Copy)]
 pub struct Cleared {
     pub session: Session,
     pub rows: u32,

@@ -17,7 +17,7 @@ use sheets::rows::latest_dts;
 use stamps::{Entry, Source};
 
 // What a run has to do: nothing, too much for its list, or the spooled rows up to a DTS.
-#[derive(Drop)]
+#[derive(Clone, Copy)]
 pub enum Task {
     Idle,
     Crowded,

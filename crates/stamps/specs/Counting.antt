@@ -1,6 +1,5 @@
 -- Counting and choosing by a test, for every layer.
 use Rattle.std.specs.Prelude.{Bool, true, false, cond, ◌&&◌, List, [], ◌∷◌, ◌++◌, ℕ, zero, suc, ◌+◌, max, ltb, eqb}
-pub mod Laws
 
 -- 1 for a test that holds
 abbrev pub bit : Bool → ℕ

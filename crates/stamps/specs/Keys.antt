@@ -5,8 +5,6 @@ use Rattle.stamps.specs.declared.Item.{Item}
 use Rattle.stamps.specs.declared.Made.{Made}
 use Rattle.stamps.specs.declared.Made.TheVariants.{Good, BadKey}
 use Rattle.stamps.specs.Counting.{all_of}
-pub mod Meaning
-pub mod Laws
 
 -- "The key becomes heat x 1000000 + car x 1000 + lap"
 abbrev pub key_of : ℕ → ℕ → ℕ → ℕ

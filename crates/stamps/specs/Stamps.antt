@@ -3,8 +3,6 @@
 use Rattle.std.specs.Prelude.{Bool, false, not, ◌&&◌, ◌||◌, List, [], ◌∷◌, ℕ, ltb, leb, eqb}
 use Rattle.stamps.specs.declared.Row.{Row}
 use Rattle.stamps.specs.declared.Entry.{Entry}
-pub mod Meaning
-pub mod Laws
 
 -- "DTS 0 means still in memory"
 abbrev pub in_memory : Row → Bool

@@ -5,9 +5,7 @@ use Rattle.stamps.specs.declared.Message.{Message}
 use Rattle.stamps.specs.declared.Row.{Row}
 use Rattle.stamps.specs.Counting.{all_of}
 use Rattle.stamps.specs.Keys.{item_of, part_of}
-use Rattle.stamps.specs.Keys.Meaning.{item_of_is, part_of_is}
 use Rattle.stamps.specs.Stamps.{present_at, together}
-use Rattle.stamps.specs.Stamps.Meaning.{alive_is, present_at_is, together_is}
 
 -- a row of some item, with these stamps
 abbrev pub row : ℕ → ℕ → Row
@@ -33,8 +31,3 @@ sums =
     ∷ eqb (item_of (message 1 1 0)).key 1001000
     ∷ (eqb (item_of (message 9 999 999)).key 9999999 && eqb (part_of 16 (item_of (message 9 999 999))) 15)
     ∷ []
-
--- every one of them is true
-pub sums_hold : all_of sums ≡ true
-unfolding sums
-sums_hold = simp (together_is, present_at_is, alive_is, part_of_is, item_of_is)

@@ -1,11 +1,13 @@
 // Stamps and keys: numbers only. What a feed sends, what is kept of it, and when two rows have met before.
+#![tactic(auto)]
+
 ghost use Rattle.std.specs.Prelude.{◌≡◌, ◌<◌};
 ghost use Rattle.stamps.specs.Keys.{in_range, made, items_match, part_of};
 ghost use Rattle.stamps.specs.Sources.{other};
 ghost use Rattle.stamps.specs.Stamps.{alive, present_at, had_left_when, together, covers};
 
 // A: lap passings. B: pack fault notes.
-#[derive(Drop)]
+#[derive(Clone, Copy)]
 pub enum Source {
     A,
     B,
@@ -21,7 +23,7 @@ pub fn other_source(source: Source) -> Source
 }
 
 // What a feed sends.
-#[derive(Drop)]
+#[derive(Clone, Copy)]
 pub struct Message {
     pub heat: u32,
     pub car: u32,
@@ -29,13 +31,13 @@ pub struct Message {
 }
 
 // What is kept of a message. Nobody above this crate looks into a key.
-#[derive(Drop)]
+#[derive(Clone, Copy)]
 pub struct Item {
     pub key: u32,
 }
 
 // A row: its item, the clock at its arrival, and the clock at its flush, 0 while it is in memory.
-#[derive(Drop)]
+#[derive(Clone, Copy)]
 pub struct Row {
     pub item: Item,
     pub ats: u32,
@@ -43,18 +45,19 @@ pub struct Row {
 }
 
 // What a run leaves in a probe list: the largest DTS that it used, and the clock.
-#[derive(Drop)]
+#[derive(Clone, Copy)]
 pub struct Entry {
     pub last: u32,
     pub probe: u32,
 }
 
-#[derive(Drop)]
+#[derive(Clone, Copy)]
 pub enum Made {
     Good(Item),
     BadKey,
 }
 
+#[tactic(auto, unfolding(crate::specs::Keys::in_range))]
 fn in_range(message: Message) -> bool
     ensures { result ≡ in_range message }
 {
@@ -77,12 +80,14 @@ pub fn item_of(message: Message) -> Made
     })
 }
 
+#[tactic(auto, unfolding(crate::specs::Keys::items_match))]
 pub fn items_match(x: Item, y: Item) -> bool
     ensures { result ≡ items_match x y }
 {
     x.key == y.key
 }
 
+#[tactic(auto, unfolding(crate::specs::Keys::part_of))]
 pub fn part_of(parts: u32, item: Item) -> u32
     requires { 0 < parts }
     ensures { (result ≡ part_of parts item) × (result < parts) }
@@ -91,12 +96,14 @@ pub fn part_of(parts: u32, item: Item) -> u32
 }
 
 // A row with these stamps was not yet flushed when the clock stood at t.
+#[tactic(auto, unfolding(crate::specs::Stamps::alive))]
 fn alive_at(t: u32, row: Row) -> bool
     ensures { result ≡ alive t row }
 {
     (row.dts == 0) | (t < row.dts)
 }
 
+#[tactic(auto, unfolding(crate::specs::Stamps::present_at))]
 fn present_at(t: u32, row: Row) -> bool
     ensures { result ≡ present_at t row }
 {
@@ -111,6 +118,7 @@ fn had_left_when(a: Row, b: Row) -> bool
 }
 
 // Rule 1 of 'done before': a had left when b came, or b had left when a came, as in figure 5(b), otherwise together, as in 5(a).
+#[tactic(auto, unfolding(crate::specs::Stamps::together))]
 pub fn were_together(a: Row, b: Row) -> bool
     ensures { result ≡ together a b }
 {
@@ -118,6 +126,7 @@ pub fn were_together(a: Row, b: Row) -> bool
 }
 
 // Rules 2 and 3 for one entry: the run that left it used the spooled x while y was in memory.
+#[tactic(auto, unfolding(crate::specs::Stamps::covers))]
 pub fn run_covers(entry: Entry, x: Row, y: Row) -> bool
     ensures { result ≡ covers entry x y }
 {

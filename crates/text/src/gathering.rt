@@ -4,7 +4,7 @@ ghost use Rattle.std.specs.Prelude.{◌≡◌, length};
 ghost use Rattle.text.specs.Gathering.{kept_len, kept_line, Took};
 
 // How many bytes of the line there are, where the next byte of the input is, and whether the line's LF was met.
-#[derive(Drop)]
+#[derive(Clone, Copy)]
 pub struct Gathered {
     pub have: usize,
     pub next: usize,

@@ -2,7 +2,7 @@
 ghost use Rattle.std.specs.Prelude.{◌≡◌, ◌≤◌};
 ghost use Rattle.text.specs.Numbers.{is_digit, number_of};
 
-#[derive(Drop)]
+#[derive(Clone, Copy)]
 pub enum Number {
     Value(u32),
     Bad,

@@ -3,7 +3,7 @@
 use borrow.Author.Rules.{rules}
 use mathlib.Core.Path.{sym, ◌∙◌}
 use borrow.Author.Tests.{le-leb, lt-leb}
-use Rattle.stamps.specs.Keys.Laws.{made_good, made_bad}
+use Rattle.stamps.proofs.KeysLaws.{made_good, made_bad}
 use Rattle.rules.specs.Refusals.{verdict}
 use Rattle.checks.proofs.refusals.admit.Statement.{statement}
 use Rattle.checks.proofs.refusals.admit.Tie as tie

@@ -1,7 +1,7 @@
 -- `sheets::layout::dts_at` meets its contract: its word is that of `row_at`, opened.
 -- Assumes nothing.
 use borrow.Author.Rules.{rules}
-use Rattle.sheets.specs.Layout.Meaning.{row_at_is}
+use Rattle.sheets.proofs.LayoutMeaning.{row_at_is}
 use Rattle.sheets.proofs.layout.dts_at.Statement.{statement}
 use Rattle.sheets.proofs.layout.dts_at.Tie as tie
 

@@ -1,7 +1,7 @@
 -- `sheets::layout::entry_at` meets its contract: its words are those of `entry_at`, opened.
 -- Assumes nothing.
 use borrow.Author.Rules.{rules}
-use Rattle.sheets.specs.Layout.Meaning.{entry_at_is}
+use Rattle.sheets.proofs.LayoutMeaning.{entry_at_is}
 use Rattle.sheets.proofs.layout.entry_at.Statement.{statement}
 use Rattle.sheets.proofs.layout.entry_at.Tie as tie
 

@@ -1,7 +1,7 @@
 -- `sheets::layout::put_dts` meets its contract: its one store is `put_row` of the row with its DTS set.
 -- Assumes nothing.
 use borrow.Author.Rules.{rules}
-use Rattle.sheets.specs.Layout.Meaning.{put_dts_is}
+use Rattle.sheets.proofs.LayoutMeaning.{put_dts_is}
 use Rattle.sheets.proofs.layout.put_dts.Statement.{statement}
 use Rattle.sheets.proofs.layout.put_dts.Tie as tie
 

@@ -3,7 +3,7 @@
 use borrow.Author.Rules.{rules}
 use native.Mathlib.Omega.{arith}
 use lib.ListN.{length-set}
-use Rattle.sheets.specs.Layout.Meaning.{put_pair_is, shows_is}
+use Rattle.sheets.proofs.LayoutMeaning.{put_pair_is, shows_is}
 use Rattle.sheets.proofs.layout.put_pair.Statement.{statement}
 use Rattle.sheets.proofs.layout.put_pair.Tie as tie
 

@@ -3,7 +3,7 @@
 use borrow.Author.Rules.{rules}
 use native.Mathlib.Omega.{arith}
 use lib.ListN.{length-set}
-use Rattle.sheets.specs.Layout.Meaning.{put_single_is}
+use Rattle.sheets.proofs.LayoutMeaning.{put_single_is}
 use Rattle.sheets.proofs.layout.put_single.Statement.{statement}
 use Rattle.sheets.proofs.layout.put_single.Tie as tie
 

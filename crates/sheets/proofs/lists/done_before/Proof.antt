@@ -1,7 +1,7 @@
 -- `sheets::lists::done_before` meets its contract: each return is the first of the three rules that holds, or the last of them.
 -- Assumes nothing.
 use borrow.Author.Rules.{rules}
-use Rattle.stamps.specs.Stamps.Laws.{done_is}
+use Rattle.stamps.proofs.StampsLaws.{done_is}
 use Rattle.sheets.proofs.lists.done_before.Statement.{statement}
 use Rattle.sheets.proofs.lists.done_before.Tie as tie
 

@@ -7,7 +7,7 @@ use Rattle.std.proofs.lemmas.Bool.{lt-leb}
 use Rattle.stamps.specs.declared.Row.{Row}
 use Rattle.stamps.specs.declared.Entry.{Entry}
 use Rattle.stamps.specs.Stamps.{in_memory, stamp, alive, present_at, had_left_when, together, covers, used, done_before}
-use Rattle.stamps.specs.Stamps.Meaning.{figure_is_rule}
+use Rattle.stamps.proofs.StampsMeaning.{figure_is_rule}
 
 -- every stamp of a list is at most c
 abbrev pub Below : ℕ → List Entry → Type 0

@@ -5,7 +5,7 @@ use Rattle.std.proofs.Common.{sym, ◌∙◌, leb-true}
 use Rattle.stamps.specs.declared.Message.{Message}
 use Rattle.stamps.specs.declared.Item.{Item}
 use Rattle.stamps.specs.Counting.{all_of}
-use Rattle.stamps.specs.Counting.Laws.{each}
+use Rattle.stamps.proofs.CountingLaws.{each}
 use Rattle.stamps.specs.Keys.{key_of, range_tests, in_range, item_of, items_match, part_of}
 
 pub in_range_is : (m : Message) → in_range m ≡ all_of (range_tests m)

@@ -7,7 +7,7 @@ use Rattle.stamps.specs.declared.Message.{Message}
 use Rattle.stamps.specs.declared.Item.{Item}
 use Rattle.stamps.specs.declared.Made.TheVariants.{Good, BadKey}
 use Rattle.stamps.specs.Keys.{in_range, item_of, made, items_match, part_of}
-use Rattle.stamps.specs.Keys.Meaning.{ranges, item_of_is}
+use Rattle.stamps.proofs.KeysMeaning.{ranges, item_of_is}
 
 eqb_comm : (i j : ℕ) → eqb i j ≡ eqb j i
 eqb_comm i j = go (eqb j i) refl
