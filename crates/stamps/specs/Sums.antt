@@ -1,9 +1,8 @@
 -- The twelve small sums of document 01: one list, and a single theorem about the list.
 -- Proved by opening the definitions and computing. Assumes nothing.
-use Rattle.std.specs.Prelude.{◌≡◌, Bool, true, not, ◌&&◌, List, [], ◌∷◌, ℕ, eqb}
+use Rattle.std.specs.Prelude.{Bool, not, ◌&&◌, List, [], ◌∷◌, ℕ, eqb}
 use Rattle.stamps.specs.declared.Message.{Message}
 use Rattle.stamps.specs.declared.Row.{Row}
-use Rattle.stamps.specs.Counting.{all_of}
 use Rattle.stamps.specs.Keys.{item_of, part_of}
 use Rattle.stamps.specs.Stamps.{present_at, together}
 
