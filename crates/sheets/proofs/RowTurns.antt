@@ -1,6 +1,6 @@
 -- The turns of the loops over one sheet's rows: each invariant speaks of what is done so far, and each way through a turn is a lemma.
 -- Assumes nothing.
-use mathlib.Core.Path.{◌≡◌, refl, sym, ◌∙◌}
+use mathlib.Core.Path.{subst, ◌≡◌, refl, sym, ◌∙◌}
 use mathlib.Core.Bool.{Bool, true, false, cond, and-false}
 use mathlib.Core.List.{List}
 use Prim.Native.Nat.{ℕ, zero, suc, ◌+◌, ◌≤◌, ◌<◌, max}
@@ -90,7 +90,9 @@ module _ (parts : ℕ) (f : ℕ → Row) (i : ℕ) (counts : List ℕ) (h : Size
   }
     where
       go : (q : ℕ) (u : Bool) → eqb q p ≡ u → cond u (portion_rows parts p f i + 1) (portion_rows parts q f i) ≡ portion_rows parts q f (suc i)
-      go q true g = rw (e, ← d, eqb-true q p g, eq-eqb p p refl)
+      go q true g =
+          let same : p ≡ q = sym (eqb-true q p g) in
+          let P : ℕ → Type 0 = λ k. portion_rows parts p f i + 1 ≡ portion_rows parts k f (suc i) in subst P same (rw (e, ← d, eq-eqb p p refl))
       go q false g = rw (e, ← d, ne_eqb p q (λ s. eqb-false q p g (sym s))) (omega arith)
 
 -- ---- the largest DTS
