@@ -115,7 +115,7 @@ calls_accept w l (c ∷ cs) g s =
     let r = after_call w c in
     let new = cond (refused r.answer) [] (offered s c.call) in
     let rest = accepted s r.world cs in
-    calls_accept _ _ cs (sits-call w l c g) s
+    calls_accept r.world _ cs (sits-call w l c g) s
     ∙ ap (λ (k : List Item). k ++ map item_of rest) (call_items w l c g s)
     ∙ append_assoc (items_of w s) (map item_of new) (map item_of rest)
     ∙ ap (λ (k : List Item). items_of w s ++ k) (sym (map-append item_of new rest))

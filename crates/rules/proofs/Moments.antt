@@ -14,7 +14,7 @@ use Rattle.stamps.specs.declared.Source.TheVariants.{A, B}
 use Rattle.stamps.specs.declared.Entry.{Entry}
 use Rattle.sheets.specs.Layout.{Told, list_no}
 use Rattle.sheets.proofs.Noted.{list_none}
-use Rattle.rules.specs.Calls.{opens, fresh}
+use Rattle.rules.specs.Calls.{opens, fresh, after_call}
 use Rattle.rules.specs.Demand3.{after_calls, opened, items_of}
 use Rattle.rules.specs.Refusals.{sizes_fit}
 use Rattle.rules.specs.World.{World, world, count_of, place_of, rows_of, Sheets, lengths, Lent}
@@ -98,4 +98,4 @@ no_places p m n x h s = ap (λ (w : World). place_of w s) (opened-fresh p m n x 
 
 pub sits_calls : (w : World) (l : List Told) (cs : List Lent) → Sits w l → Sits (after_calls w l cs).world (after_calls w l cs).written
 sits_calls w l [] g = g
-sits_calls w l (c ∷ cs) g = sits_calls _ _ cs (sits-call w l c g)
+sits_calls w l (c ∷ cs) g = sits_calls (after_call w c).world _ cs (sits-call w l c g)

@@ -1,25 +1,19 @@
 -- What the definitions give for document 01's worked session in heat 1, computed from the definitions: answers, pairs, stamps, and the one entry.
 -- Proved by computing it. Assumes nothing.
-use Rattle.std.specs.Prelude.{◌≡◌, refl, false, List, [], ◌∷◌, ◌++◌, ℕ, ◌+◌, replicate}
+use Rattle.std.specs.Prelude.{◌≡◌, refl, [], ◌∷◌, ◌++◌, replicate}
 use Rattle.stamps.specs.Keys.{in_range, item_of, items_match, part_of}
 use Rattle.stamps.specs.Stamps.{alive, present_at, together, covers, used, done_before}
-use Rattle.stamps.specs.declared.Source.TheVariants.{A, B}
-use Rattle.stamps.specs.declared.Message.{Message}
-use Rattle.sheets.specs.Layout.{Told, row_at, put_row, entry_at, put_entry, pair_at, put_pair, pairs_need, rows_need, probe_need, shows}
+use Rattle.stamps.specs.declared.Source.TheVariants.{B}
+use Rattle.sheets.specs.Layout.{row_at, put_row, entry_at, put_entry, pair_at, put_pair, shows}
 use Rattle.sheets.specs.Lists.{entries, list_of, probed_at}
 use Rattle.sheets.specs.Rows.{leave, largest_part, victim}
-use Rattle.pairs.specs.Pairs.{arrival_pairs, is_due, tried, due_pairs, due_from, pairs_at}
-use Rattle.rules.specs.Answers.{pairs_of}
-use Rattle.rules.specs.World.{World, given, bundle, flush, store, note, shut, move, world, with_clock, with_feed, with_counts, Sheets, with_rows, with_probe}
+use Rattle.pairs.specs.Pairs.{arrival_pairs, is_due, tried, due_pairs, due_from}
+use Rattle.rules.specs.World.{flush, store, note, shut, move}
 use Rattle.rules.specs.Refusals.{verdict, session_fits, room_for, own_checks}
-use Rattle.rules.specs.Calls.{After, fresh, joins, arrives, evicts, runs, drains, effect, after_call}
-use Rattle.rules.specs.declared.Call.{Call}
-use Rattle.rules.specs.declared.Call.TheVariants.{Arrive, Evict, Run, Close, Drain}
+use Rattle.rules.specs.Calls.{joins, arrives, evicts, runs, drains, effect, after_call}
+use Rattle.rules.specs.declared.Call.TheVariants.{Run, Drain}
 use Rattle.rules.specs.declared.Why.TheVariants.{StillOpen}
-use Rattle.rules.specs.declared.Answer.{Answer}
-use Rattle.rules.specs.declared.Answer.TheVariants.{Taken, Flushed, Ran, Shut, More, Done, Refused}
-use Rattle.rules.specs.declared.Feed.{Feed}
-
+use Rattle.rules.specs.declared.Answer.TheVariants.{Ran, Shut, More, Done, Refused}
 use Rattle.rules.specs.Worked.{ask, play, started, fed, run, drained, fed_stage, run_stage, told}
 
 fed_is : fed ≡ fed_stage
