@@ -4,12 +4,10 @@ use mathlib.Core.Path.{◌≡◌, refl, subst}
 use mathlib.Core.Bool.{true, false}
 use mathlib.Core.List.{List}
 use Prim.Native.Nat.{ℕ}
-use native.Mathlib.Omega.{arith}
 use lib.ListN.{take}
 use Rattle.text.specs.Gathering.{Held}
 use Rattle.text.specs.declared.gathering.Gathered.{Gathered}
 use Rattle.rules.specs.World.{Sheets}
-use Rattle.rules.specs.declared.Call.TheVariants as call
 use Rattle.answering.specs.Answering.{answered, Says}
 use Rattle.answering.specs.declared.State.{State}
 use Rattle.answering.proofs.Turns.{says_nothing}
