@@ -1,5 +1,5 @@
 -- Stamps: when a row was in memory, and which pairs were done before. Rules 2 and 3 ask a DTS whether its row was still in memory (`alive`),
--- rule 1 whether it had left (`had_left_when`), as the figure does: one is the other's opposite (`left_is` in Meaning).
+-- rule 1 whether it had left (`had_left_when`), as the figure does: one is the other's opposite (`left_is` in proofs/StampsMeaning).
 use Rattle.std.specs.Prelude.{Bool, false, not, ◌&&◌, ◌||◌, List, [], ◌∷◌, ℕ, ltb, leb, eqb}
 use Rattle.stamps.specs.declared.Row.{Row}
 use Rattle.stamps.specs.declared.Entry.{Entry}
@@ -26,7 +26,7 @@ abbrev pub had_left_when : Row → Row → Bool
 had_left_when a b = not (in_memory a) && leb a.dts b.ats
 
 -- rule 1, in memory together: "a had left when b came, or b had left when a came", as in figure 5(b), "otherwise together", as in 5(a).
--- Document 01 has other words for the same (`figure_is_rule` in Meaning)
+-- Document 01 has other words for the same (`figure_is_rule` in proofs/StampsMeaning)
 unfoldable pub together : Row → Row → Bool
 together a b = not (had_left_when a b || had_left_when b a)
 

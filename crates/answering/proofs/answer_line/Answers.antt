@@ -1,4 +1,4 @@
--- the reply of its turn is put into the buffer.
+-- The reply of its turn is put into the buffer.
 use native.Mathlib.Omega.{arith}
 use Rattle.rules.specs.World.{bundle}
 use Rattle.answering.proofs.Turns.{says-turn}

@@ -1,4 +1,4 @@
--- before any START it is refused, after that it is the call.
+-- Before any START it is refused, after that it is the call.
 use Rattle.answering.specs.Answering.{asks}
 use Rattle.answering.proofs.ask.Goals as goal
 

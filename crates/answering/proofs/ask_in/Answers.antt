@@ -1,4 +1,4 @@
--- the call is lent the first words of the output, and those behind them stay.
+-- The call is lent the first words of the output, and those behind them stay.
 use mathlib.Core.Path.{sym}
 use lib.Seq.{length-take-le}
 use Rattle.answering.specs.Answering.{asks_in}

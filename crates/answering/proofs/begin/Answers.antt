@@ -1,4 +1,4 @@
--- by whether the opening was refused.
+-- By whether the opening was refused.
 use mathlib.Core.Path.{sym, ◌∙◌}
 use Rattle.answering.proofs.begin.Goals as goal
 

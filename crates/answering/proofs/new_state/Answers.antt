@@ -1,4 +1,4 @@
--- the record is one of zeros.
+-- The record is one of zeros.
 use Rattle.answering.proofs.new_state.Goals as goal
 
 pub returns : goal.returns

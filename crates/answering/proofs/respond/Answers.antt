@@ -1,4 +1,4 @@
--- what the line asks for picks the turn, as in `turn_of`.
+-- What the line asks for picks the turn, as in `turn_of`.
 use native.Mathlib.Omega.{arith}
 use Rattle.rules.specs.World.{bundle}
 use Rattle.reading.proofs.Laws.{read_fits}

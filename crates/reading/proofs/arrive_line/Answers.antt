@@ -1,4 +1,4 @@
--- the three numbers are what `three_of` says.
+-- The three numbers are what `three_of` says.
 use Rattle.reading.proofs.arrive_line.Goals as goal
 
 pub returns-in_default : goal.returns-in_default

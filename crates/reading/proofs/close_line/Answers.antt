@@ -1,4 +1,4 @@
--- each test and each field is one of `close_line`.
+-- Each test and each field is one of `close_line`.
 use Rattle.text.proofs.Tested.{told-eq, told_ne}
 use Rattle.reading.specs.Reading.{close_line}
 use Rattle.reading.proofs.close_line.Goals as goal

@@ -1,4 +1,4 @@
--- each test and each field is one of `drain_line`.
+-- Each test and each field is one of `drain_line`.
 use borrow.Author.Tests.{le-leb, lt-leb}
 use Rattle.text.proofs.Tested.{told-eq, told_ne}
 use Rattle.reading.specs.Reading.{drain_line}

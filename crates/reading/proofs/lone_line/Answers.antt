@@ -1,4 +1,4 @@
--- the source and the number are what `sourced_of` says, and the number is a room.
+-- The source and the number are what `sourced_of` says, and the number is a room.
 use borrow.Author.Tests.{le-leb, lt-leb}
 use Rattle.reading.proofs.lone_line.Goals as goal
 

@@ -1,4 +1,4 @@
--- the word picks the line, as in `line_of`.
+-- The word picks the line, as in `line_of`.
 use Prim.Native.Nat.{◌≤◌, ◌<◌}
 use native.Mathlib.Omega.{arith}
 use lib.ListN.{length}

@@ -1,4 +1,4 @@
--- each test and each field is one of `sourced_of`.
+-- Each test and each field is one of `sourced_of`.
 use Rattle.text.proofs.Tested.{told-eq, told_ne}
 use Rattle.reading.specs.Reading.{sourced_of}
 use Rattle.reading.proofs.read_sourced.Goals as goal

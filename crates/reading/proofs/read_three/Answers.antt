@@ -1,4 +1,4 @@
--- each test and each field is one of `three_of`.
+-- Each test and each field is one of `three_of`.
 use Rattle.text.proofs.Tested.{told-eq, told_ne}
 use Rattle.reading.specs.Reading.{three_of}
 use Rattle.reading.proofs.read_three.Goals as goal

@@ -1,4 +1,4 @@
--- the source and the number are what `sourced_of` says.
+-- The source and the number are what `sourced_of` says.
 use Rattle.reading.proofs.run_line.Goals as goal
 
 pub returns-in_default : goal.returns-in_default

@@ -1,4 +1,4 @@
--- the field's bytes are those that `field_at` says.
+-- The field's bytes are those that `field_at` says.
 use Rattle.reading.proofs.side_at.Goals as goal
 
 pub returns : goal.returns

@@ -1,4 +1,4 @@
--- by its cases.
+-- By its cases.
 use Rattle.replies.proofs.need_of.Goals as goal
 
 pub returns-in-RoomShort : goal.returns-in-RoomShort

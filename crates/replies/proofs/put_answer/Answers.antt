@@ -1,4 +1,4 @@
--- each way of saying has its line.
+-- Each way of saying has its line.
 use borrow.Author.Rules.{rules}
 use Rattle.replies.proofs.put_answer.Goals as goal
 

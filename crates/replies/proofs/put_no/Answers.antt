@@ -1,4 +1,4 @@
--- by whether a count is named.
+-- By whether a count is named.
 use borrow.Author.Rules.{rules}
 use Rattle.replies.proofs.put_no.Goals as goal
 

@@ -1,4 +1,4 @@
--- the pairs, the rows without partner, then the answer.
+-- The pairs, the rows without partner, then the answer.
 use borrow.Author.Rules.{rules}
 use mathlib.Core.Path.{ap}
 use native.Mathlib.Omega.{arith}

@@ -1,4 +1,4 @@
--- by its cases.
+-- By its cases.
 use Rattle.replies.proofs.saying_of.Goals as goal
 
 pub returns-in-Taken : goal.returns-in-Taken

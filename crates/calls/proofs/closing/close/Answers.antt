@@ -1,4 +1,4 @@
--- the verdict settles it.
+-- The verdict settles it.
 use Rattle.rules.specs.Calls.{effect}
 use Rattle.rules.specs.World.{shut, world, bundle, given}
 use Rattle.rules.specs.Refusals.{own_checks}

@@ -1,4 +1,4 @@
--- the sizes fit, and the record is fresh, or they do not, and it is one of zeros.
+-- The sizes fit, and the record is fresh, or they do not, and it is one of zeros.
 use Rattle.rules.specs.Calls.{opens}
 use Rattle.calls.proofs.opening.open.Goals as goal
 

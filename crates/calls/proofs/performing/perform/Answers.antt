@@ -1,4 +1,4 @@
--- each arm is a call whose promise is this one.
+-- Each arm is a call whose promise is this one.
 use Rattle.calls.proofs.performing.perform.Goals as goal
 
 pub returns-in-Arrive : goal.returns-in-Arrive

@@ -1,4 +1,4 @@
--- each arm is the case of `with_feed` for its source.
+-- Each arm is the case of `with_feed` for its source.
 use Rattle.checks.proofs.feeds.with_feed.Goals as goal
 
 pub returns-in-A : goal.returns-in-A

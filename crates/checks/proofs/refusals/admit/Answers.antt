@@ -1,4 +1,4 @@
--- each return is the first check that fails, or none.
+-- Each return is the first check that fails, or none.
 use mathlib.Core.Path.{sym, ◌∙◌}
 use borrow.Author.Tests.{le-leb, lt-leb}
 use Rattle.stamps.proofs.KeysLaws.{made_good, made_bad}

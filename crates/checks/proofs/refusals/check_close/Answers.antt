@@ -1,4 +1,4 @@
--- each return is the first check that fails, or none.
+-- Each return is the first check that fails, or none.
 use Rattle.rules.specs.Refusals.{verdict}
 use Rattle.checks.proofs.refusals.check_close.Goals as goal
 

@@ -1,4 +1,4 @@
--- each return is the first check that fails, or none.
+-- Each return is the first check that fails, or none.
 use borrow.Author.Tests.{eq-eqb, ne_eqb}
 use Rattle.rules.specs.Refusals.{verdict}
 use Rattle.checks.proofs.refusals.check_drain.Goals as goal

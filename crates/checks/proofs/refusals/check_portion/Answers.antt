@@ -1,4 +1,4 @@
--- each return is the first check that fails, or none.
+-- Each return is the first check that fails, or none.
 use borrow.Author.Tests.{le-leb, lt-leb}
 use Rattle.rules.specs.Refusals.{verdict}
 use Rattle.checks.proofs.refusals.check_portion.Goals as goal

@@ -1,4 +1,4 @@
--- the lists passed so far fit.
+-- The lists passed so far fit.
 use mathlib.Core.Path.{◌≡◌}
 use native.Mathlib.Omega.{arith}
 use native.Mathlib.Numerals.{add-one}

@@ -1,4 +1,4 @@
--- the lists passed so far fit.
+-- The lists passed so far fit.
 use mathlib.Core.Path.{◌≡◌}
 use Prim.Native.Nat.{◌≤◌, ◌-◌}
 use Rattle.rules.specs.Refusals.{counts_fit}

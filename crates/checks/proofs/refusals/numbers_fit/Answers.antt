@@ -1,4 +1,4 @@
--- its tests are those of `numbers_fit`, and the product of two words fits twice their width.
+-- Its tests are those of `numbers_fit`, and the product of two words fits twice their width.
 use borrow.Author.Rules.{rules}
 use mathlib.Core.Bool.{and_assoc}
 use native.Mathlib.Omega.{arith}

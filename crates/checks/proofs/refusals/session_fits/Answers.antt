@@ -1,4 +1,4 @@
--- each return is what the tests before it leave of `session_fits`.
+-- Each return is what the tests before it leave of `session_fits`.
 use Rattle.rules.specs.World.{world, bundle}
 use Rattle.checks.proofs.Passing.{few_lists, session_good, session_numbers, session_sizes}
 use Rattle.checks.proofs.refusals.session_fits.Goals as goal

@@ -1,4 +1,4 @@
--- its tests are those of `sizes_fit`.
+-- Its tests are those of `sizes_fit`.
 use mathlib.Core.Bool.{and_assoc}
 use Rattle.checks.proofs.refusals.sizes_fit.Goals as goal
 

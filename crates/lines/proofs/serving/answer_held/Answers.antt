@@ -1,4 +1,4 @@
--- the bytes lent are the first of the buffer, or all of it.
+-- The bytes lent are the first of the buffer, or all of it.
 use mathlib.Core.Path.{sym}
 use native.Mathlib.Omega.{arith}
 use lib.Seq.{take_all, length-take-le}

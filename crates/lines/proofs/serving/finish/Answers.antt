@@ -1,4 +1,4 @@
--- an empty rest is no line.
+-- An empty rest is no line.
 use borrow.Author.Tests.{eq-eqb, ne_eqb}
 use Rattle.answering.proofs.Turns.{says_nothing}
 use Rattle.lines.proofs.serving.finish.Goals as goal

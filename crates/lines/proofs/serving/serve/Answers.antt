@@ -1,4 +1,4 @@
--- by whether the line ended.
+-- By whether the line ended.
 use mathlib.Core.Path.{◌≡◌}
 use native.Mathlib.Omega.{arith}
 use lib.ListN.{length}

@@ -1,4 +1,4 @@
--- the count so far is that of the rows passed.
+-- The count so far is that of the rows passed.
 use borrow.Author.Rules.{rules}
 use mathlib.Core.Path.{◌≡◌, sym, ◌∙◌}
 use native.Mathlib.Omega.{arith}

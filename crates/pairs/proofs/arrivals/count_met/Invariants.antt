@@ -1,4 +1,4 @@
--- the count so far is that of the rows passed.
+-- The count so far is that of the rows passed.
 use Prim.Native.Nat.{◌≤◌, ◌-◌}
 use Rattle.sheets.specs.Layout.{row_at}
 use Rattle.pairs.specs.Pairs.{met}

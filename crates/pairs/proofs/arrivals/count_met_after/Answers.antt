@@ -1,4 +1,4 @@
--- rows that match are of the item's partition, so a flush of it leaves none, and a flush of another leaves all.
+-- Rows that match are of the item's partition, so a flush of it leaves none, and a flush of another leaves all.
 use mathlib.Core.Path.{sym, ◌∙◌}
 use Rattle.pairs.proofs.PairTurns.{gone_none, kept-count}
 use Rattle.sheets.specs.Layout.{row_at}

@@ -1,4 +1,4 @@
--- the items first, then the DTS.
+-- The items first, then the DTS.
 use Rattle.pairs.proofs.arrivals.is_met.Goals as goal
 
 pub returns-then-items_match : goal.returns-then-items_match

@@ -1,4 +1,4 @@
--- what is written, then the pairs with the rows ahead, is the whole.
+-- What is written, then the pairs with the rows ahead, is the whole.
 use borrow.Author.Rules.{rules}
 use mathlib.Core.Path.{sym, ◌∙◌}
 use native.Mathlib.Omega.{arith}

@@ -1,4 +1,4 @@
--- what is written, then the pairs with the rows ahead, is the whole.
+-- What is written, then the pairs with the rows ahead, is the whole.
 use Prim.Native.Nat.{◌≤◌, ◌-◌}
 use Rattle.sheets.specs.Layout.{row_at}
 use Rattle.pairs.proofs.PairTurns.{Arriving}

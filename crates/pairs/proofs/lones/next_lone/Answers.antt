@@ -1,4 +1,4 @@
--- every row passed so far has a partner.
+-- Every row passed so far has a partner.
 use Rattle.pairs.specs.Lones.{items_in}
 use Rattle.pairs.proofs.LoneTurns.{lone_yes, lone-no}
 use Rattle.pairs.proofs.PairTurns.{passed_first, passed_one, passed-found, passed_end}

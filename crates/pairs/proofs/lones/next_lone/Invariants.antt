@@ -1,4 +1,4 @@
--- every row passed so far has a partner.
+-- Every row passed so far has a partner.
 use Prim.Native.Nat.{◌-◌}
 use Rattle.pairs.specs.Lones.{items_in, is_lone}
 use Rattle.pairs.proofs.PairTurns.{Passed}

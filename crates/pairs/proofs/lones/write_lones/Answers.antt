@@ -1,4 +1,4 @@
--- what is written, then what is ahead within the room, is the whole.
+-- What is written, then what is ahead within the room, is the whole.
 use native.Mathlib.Omega.{arith}
 use Rattle.pairs.specs.Lones.{items_in}
 use Rattle.pairs.proofs.LoneTurns.{listing_first, listing_next, listing_full, listing_end}

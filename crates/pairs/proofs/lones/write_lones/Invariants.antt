@@ -1,4 +1,4 @@
--- what is written, then what is ahead within the room, is the whole.
+-- What is written, then what is ahead within the room, is the whole.
 use Prim.Native.Nat.{◌-◌}
 use Rattle.pairs.specs.Lones.{items_in, lones_from}
 use Rattle.pairs.proofs.LoneTurns.{Listing}

@@ -1,4 +1,4 @@
--- the pairs counted, and those that are left, are all.
+-- The pairs counted, and those that are left, are all.
 use borrow.Author.Rules.{rules}
 use native.Mathlib.Omega.{arith}
 use Rattle.pairs.specs.Pairs.{table_of}

@@ -1,4 +1,4 @@
--- the pairs counted, and those that are left, are all.
+-- The pairs counted, and those that are left, are all.
 use lib.ListN.{length}
 use Rattle.pairs.specs.Pairs.{table_of, left_from}
 use Rattle.pairs.proofs.GridTurns.{Tallied}

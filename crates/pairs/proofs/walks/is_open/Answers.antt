@@ -1,4 +1,4 @@
--- the test of the facing row first, then `done_before`.
+-- The test of the facing row first, then `done_before`.
 use Rattle.pairs.proofs.walks.is_open.Goals as goal
 
 pub returns-then-meets_row : goal.returns-then-meets_row

@@ -1,4 +1,4 @@
--- each arm is a case of `meets`.
+-- Each arm is a case of `meets`.
 use Rattle.pairs.proofs.walks.meets_row.Goals as goal
 
 pub returns-in-Portion : goal.returns-in-Portion

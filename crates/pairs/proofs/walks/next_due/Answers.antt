@@ -1,4 +1,4 @@
--- as much is left from the row in hand on as was from the first spot.
+-- As much is left from the row in hand on as was from the first spot.
 use Rattle.pairs.proofs.GridTurns.{walked_first, walked_row, walked-found, walked_end}
 use Rattle.pairs.proofs.walks.next_due.Goals as goal
 

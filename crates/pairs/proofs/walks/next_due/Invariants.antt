@@ -1,4 +1,4 @@
--- as much is left from the row in hand on as was from the first spot.
+-- As much is left from the row in hand on as was from the first spot.
 use Prim.Native.Nat.{◌-◌}
 use Rattle.pairs.specs.Pairs.{table_of}
 use Rattle.pairs.proofs.GridTurns.{Walked}

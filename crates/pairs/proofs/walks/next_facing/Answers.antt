@@ -1,4 +1,4 @@
--- a row that is not looked at has none; else the lists are those of its partition.
+-- A row that is not looked at has none; else the lists are those of its partition.
 use mathlib.Core.Path.{sym, ◌∙◌}
 use Rattle.pairs.proofs.PairTurns.{next_left_out, next_taken}
 use Rattle.sheets.proofs.Laws.{list_fits}

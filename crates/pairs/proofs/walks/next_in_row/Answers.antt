@@ -1,4 +1,4 @@
--- from match to match, none passed so far is wanted.
+-- From match to match, none passed so far is wanted.
 use Rattle.pairs.proofs.PairTurns.{sought_first, sought_next, sought_found, sought_end}
 use Rattle.pairs.proofs.walks.next_in_row.Goals as goal
 

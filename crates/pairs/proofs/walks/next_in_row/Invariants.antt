@@ -1,4 +1,4 @@
--- from match to match, none passed so far is wanted.
+-- From match to match, none passed so far is wanted.
 use Prim.Native.Nat.{◌-◌}
 use mathlib.Core.Bool.{◌&&◌, not}
 use Rattle.stamps.specs.Keys.{items_match}

@@ -1,4 +1,4 @@
--- no row passed so far matches.
+-- No row passed so far matches.
 use mathlib.Core.Path.{sym, ap, ◌∙◌}
 use Rattle.stamps.specs.Keys.{items_match}
 use Rattle.pairs.proofs.PairTurns.{passed_first, passed_one, passed-found, passed_end}

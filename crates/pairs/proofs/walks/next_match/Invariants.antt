@@ -1,4 +1,4 @@
--- no row passed so far matches.
+-- No row passed so far matches.
 use Prim.Native.Nat.{◌-◌}
 use Rattle.stamps.specs.Keys.{items_match}
 use Rattle.sheets.specs.Layout.{row_at}

@@ -1,4 +1,4 @@
--- each return is a case of `takes`, the DTS first.
+-- Each return is a case of `takes`, the DTS first.
 use borrow.Author.Tests.{eq-eqb, ne_eqb}
 use Rattle.pairs.proofs.walks.takes_row.Goals as goal
 

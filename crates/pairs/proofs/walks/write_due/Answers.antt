@@ -1,4 +1,4 @@
--- what is written, then what is left within the room, is the whole.
+-- What is written, then what is left within the room, is the whole.
 use native.Mathlib.Omega.{arith}
 use Rattle.pairs.specs.Pairs.{table_of}
 use Rattle.pairs.proofs.Laws.{product_few}

@@ -1,4 +1,4 @@
--- what is written, then what is left within the room, is the whole.
+-- What is written, then what is left within the room, is the whole.
 use Prim.Native.Nat.{◌-◌}
 use Rattle.pairs.specs.Pairs.{table_of, left_from}
 use Rattle.pairs.proofs.GridTurns.{Writing}

@@ -1,4 +1,4 @@
--- the position's row and column are where as much is left.
+-- The position's row and column are where as much is left.
 use native.Mathlib.Nat.{le_of_lt, mod-lt, mul_comm, div-le_of_le-mul, pos_of_ne-zero}
 use Rattle.pairs.specs.Pairs.{table_of}
 use Rattle.pairs.proofs.GridTurns.{writing_none}

@@ -1,4 +1,4 @@
--- each test that is passed or met is a test of `word_of`.
+-- Each test that is passed or met is a test of `word_of`.
 use Rattle.text.proofs.Tested.{told}
 use Rattle.reading.specs.Words.{word_of}
 use Rattle.reading.proofs.words.read_word.Goals as goal

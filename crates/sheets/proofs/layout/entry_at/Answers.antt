@@ -1,4 +1,4 @@
--- its words are those of `entry_at`, opened.
+-- Its words are those of `entry_at`, opened.
 use Rattle.sheets.proofs.LayoutMeaning.{entry_at_is}
 use Rattle.sheets.proofs.layout.entry_at.Goals as goal
 

@@ -1,4 +1,4 @@
--- its word is that of `row_at`, opened.
+-- Its word is that of `row_at`, opened.
 use Rattle.sheets.proofs.LayoutMeaning.{row_at_is}
 use Rattle.sheets.proofs.layout.item_at.Goals as goal
 

@@ -1,4 +1,4 @@
--- each arm is the case of `list_no` for its source.
+-- Each arm is the case of `list_no` for its source.
 use borrow.Author.Rules.{rules}
 use native.Mathlib.Omega.{arith}
 use Rattle.sheets.proofs.layout.list_no.Goals as goal

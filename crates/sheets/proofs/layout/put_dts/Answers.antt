@@ -1,4 +1,4 @@
--- its one store is `put_row` of the row with its DTS set.
+-- Its one store is `put_row` of the row with its DTS set.
 use Rattle.sheets.proofs.LayoutMeaning.{put_dts_is}
 use Rattle.sheets.proofs.layout.put_dts.Goals as goal
 

@@ -1,4 +1,4 @@
--- its two stores are those of `put_entry`, opened.
+-- Its two stores are those of `put_entry`, opened.
 use native.Mathlib.Omega.{arith}
 use lib.ListN.{length-set}
 use Rattle.sheets.proofs.LayoutMeaning.{put_entry_is}

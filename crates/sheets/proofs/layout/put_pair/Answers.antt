@@ -1,4 +1,4 @@
--- its three stores are those of `put_pair`, opened.
+-- Its three stores are those of `put_pair`, opened.
 use native.Mathlib.Omega.{arith}
 use lib.ListN.{length-set}
 use Rattle.sheets.proofs.LayoutMeaning.{put_pair_is, shows_is}

@@ -1,4 +1,4 @@
--- its three stores are those of `put_row`, opened.
+-- Its three stores are those of `put_row`, opened.
 use native.Mathlib.Omega.{arith}
 use lib.ListN.{length-set}
 use Rattle.sheets.proofs.LayoutMeaning.{put_row_is}

@@ -1,4 +1,4 @@
--- its two stores are those of `put_single`, opened.
+-- Its two stores are those of `put_single`, opened.
 use native.Mathlib.Omega.{arith}
 use lib.ListN.{length-set}
 use Rattle.sheets.proofs.LayoutMeaning.{put_single_is}

@@ -1,4 +1,4 @@
--- each arm is the case of `tell` for its source.
+-- Each arm is the case of `tell` for its source.
 use Rattle.sheets.proofs.layout.put_told.Goals as goal
 
 pub returns-in-A : goal.returns-in-A

@@ -1,4 +1,4 @@
--- its words are those of `row_at`, opened.
+-- Its words are those of `row_at`, opened.
 use Rattle.sheets.proofs.LayoutMeaning.{row_at_is}
 use Rattle.sheets.proofs.layout.row_at.Goals as goal
 

@@ -1,4 +1,4 @@
--- each return is the first of the three rules that holds, or the last of them.
+-- Each return is the first of the three rules that holds, or the last of them.
 use Rattle.stamps.proofs.StampsLaws.{done_is}
 use Rattle.sheets.proofs.lists.done_before.Goals as goal
 

@@ -1,4 +1,4 @@
--- the number is `list_no`'s, and the size is read there.
+-- The number is `list_no`'s, and the size is read there.
 use Rattle.sheets.proofs.lists.list_of.Goals as goal
 
 pub returns : goal.returns

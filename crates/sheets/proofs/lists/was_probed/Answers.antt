@@ -1,4 +1,4 @@
--- the last entry is the one before the size.
+-- The last entry is the one before the size.
 use Rattle.sheets.proofs.ListTurns.{probed_none, probed_some}
 use Rattle.sheets.proofs.lists.was_probed.Goals as goal
 

@@ -1,4 +1,4 @@
--- what is found so far is what the entries passed cover.
+-- What is found so far is what the entries passed cover.
 use borrow.Author.Rules.{rules}
 use mathlib.Core.Path.{◌≡◌, ◌∙◌}
 use native.Mathlib.Omega.{arith}

@@ -1,4 +1,4 @@
--- what is found so far is what the entries passed cover.
+-- What is found so far is what the entries passed cover.
 use Prim.Native.Nat.{◌≤◌, ◌-◌}
 use Rattle.sheets.proofs.ListTurns.{Looked}
 use Rattle.sheets.proofs.lists.was_used.Given as goal

@@ -1,4 +1,4 @@
--- the sizes so far are those of the rows passed.
+-- The sizes so far are those of the rows passed.
 use borrow.Author.Rules.{rules}
 use mathlib.Core.Path.{◌≡◌, sym, ap, ◌∙◌}
 use native.Mathlib.Omega.{arith}

@@ -1,4 +1,4 @@
--- the sizes so far are those of the rows passed.
+-- The sizes so far are those of the rows passed.
 use Prim.Native.Nat.{◌≤◌, ◌-◌}
 use Rattle.sheets.specs.Layout.{row_at}
 use Rattle.sheets.proofs.RowTurns.{Sized}

@@ -1,4 +1,4 @@
--- the counts that it compares are those of the rows in memory.
+-- The counts that it compares are those of the rows in memory.
 use mathlib.Core.Path.{sym}
 use Rattle.sheets.proofs.Victim.{victim-a, victim-b}
 use Rattle.sheets.proofs.rows.find_victim.Goals as goal

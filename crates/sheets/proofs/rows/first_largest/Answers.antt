@@ -1,4 +1,4 @@
--- the partition kept so far is the first of the largest of those passed.
+-- The partition kept so far is the first of the largest of those passed.
 use borrow.Author.Rules.{rules}
 use mathlib.Core.Path.{◌≡◌}
 use native.Mathlib.Omega.{arith}

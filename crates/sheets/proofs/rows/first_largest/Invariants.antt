@@ -1,4 +1,4 @@
--- the partition kept so far is the first of the largest of those passed.
+-- The partition kept so far is the first of the largest of those passed.
 use Prim.Native.Nat.{◌≤◌, ◌<◌, ◌-◌}
 use lib.ListN.{get_or}
 use Rattle.sheets.proofs.RowTurns.{Leading}

@@ -1,4 +1,4 @@
--- the sheet so far has the flushed rows laid over those passed.
+-- The sheet so far has the flushed rows laid over those passed.
 use borrow.Author.Rules.{rules}
 use mathlib.Core.Path.{◌≡◌, sym, ◌∙◌}
 use native.Mathlib.Omega.{arith}

@@ -1,4 +1,4 @@
--- the sheet so far has the flushed rows laid over those passed.
+-- The sheet so far has the flushed rows laid over those passed.
 use Prim.Native.Nat.{◌≤◌, ◌-◌}
 use Rattle.sheets.proofs.RowTurns.{Flushing}
 use Rattle.sheets.proofs.rows.flush.Given as goal

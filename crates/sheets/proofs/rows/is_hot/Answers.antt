@@ -1,4 +1,4 @@
--- the DTS first, then the partition.
+-- The DTS first, then the partition.
 use mathlib.Core.Path.{sym, ◌∙◌}
 use borrow.Author.Tests.{eq-eqb, ne_eqb}
 use Rattle.sheets.proofs.rows.is_hot.Goals as goal

@@ -1,4 +1,4 @@
--- the sizes that `first_largest` compares are the portions'.
+-- The sizes that `first_largest` compares are the portions'.
 use mathlib.Core.Path.{◌∙◌}
 use Rattle.sheets.proofs.RowTurns.{largest_is}
 use Rattle.sheets.proofs.rows.largest_part.Goals as goal

@@ -1,4 +1,4 @@
--- the largest DTS so far is that of the rows passed.
+-- The largest DTS so far is that of the rows passed.
 use borrow.Author.Rules.{rules}
 use mathlib.Core.Path.{◌≡◌, sym, ap, ◌∙◌}
 use native.Mathlib.Omega.{arith}

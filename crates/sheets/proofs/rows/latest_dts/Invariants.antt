@@ -1,4 +1,4 @@
--- the largest DTS so far is that of the rows passed.
+-- The largest DTS so far is that of the rows passed.
 use Prim.Native.Nat.{◌≤◌, ◌-◌}
 use Rattle.sheets.specs.Layout.{row_at}
 use Rattle.sheets.proofs.RowTurns.{Topped}

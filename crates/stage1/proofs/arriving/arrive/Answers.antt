@@ -1,4 +1,4 @@
--- the checks before the pairs, then the room, settle it.
+-- The checks before the pairs, then the room, settle it.
 use native.Mathlib.Omega.{arith}
 use Rattle.rules.specs.World.{bundle, world}
 use Rattle.checks.proofs.Passing.{row-space}

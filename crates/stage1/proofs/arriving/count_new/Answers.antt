@@ -1,4 +1,4 @@
--- a flush of the other source leaves the sheet alone; one of this source is told ahead.
+-- A flush of the other source leaves the sheet alone; one of this source is told ahead.
 use mathlib.Core.Path.{sym, ◌∙◌}
 use Rattle.sheets.specs.Layout.{row_at}
 use Rattle.stage1.proofs.Arrivals.{count_enough, count_same, count_other}

@@ -1,4 +1,4 @@
--- each arm counts on the sheet that faces its source.
+-- Each arm counts on the sheet that faces its source.
 use native.Mathlib.Omega.{arith}
 use Rattle.stamps.specs.declared.Source.TheVariants.{A, B}
 use Rattle.rules.specs.World.{world, with_rows, no_sheets}

@@ -1,4 +1,4 @@
--- the memory rows of both sheets are counted, and the victim is `find_victim`'s.
+-- The memory rows of both sheets are counted, and the victim is `find_victim`'s.
 use native.Mathlib.Omega.{arith}
 use borrow.Author.Tests.{le-leb, lt-leb}
 use Rattle.sheets.specs.Layout.{row_at}

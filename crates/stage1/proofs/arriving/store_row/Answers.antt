@@ -1,4 +1,4 @@
--- each arm is the case of `store` for its source.
+-- Each arm is the case of `store` for its source.
 use mathlib.Core.Path.{ap}
 use native.Mathlib.Omega.{arith}
 use Rattle.stamps.specs.declared.Source.TheVariants.{A, B}

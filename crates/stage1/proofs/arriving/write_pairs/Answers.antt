@@ -1,4 +1,4 @@
--- each arm writes from the sheet that faces its source.
+-- Each arm writes from the sheet that faces its source.
 use Rattle.rules.specs.World.{no_sheets}
 use Rattle.stage1.proofs.arriving.write_pairs.Goals as goal
 

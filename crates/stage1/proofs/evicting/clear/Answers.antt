@@ -1,4 +1,4 @@
--- each arm is the case of `flush` for its source.
+-- Each arm is the case of `flush` for its source.
 use Rattle.stamps.specs.declared.Source.TheVariants.{A, B}
 use Rattle.rules.specs.World.{world, with_rows}
 use Rattle.stage1.proofs.Flushing.{flush_is}

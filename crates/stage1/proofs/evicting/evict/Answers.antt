@@ -1,4 +1,4 @@
--- the verdict settles it, and `clear` does the flush.
+-- The verdict settles it, and `clear` does the flush.
 use Rattle.rules.specs.Calls.{effect}
 use Rattle.rules.specs.World.{bundle, world, given}
 use Rattle.rules.specs.Refusals.{own_checks}

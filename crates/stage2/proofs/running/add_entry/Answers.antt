@@ -1,4 +1,4 @@
--- the list's next place, and its count.
+-- The list's next place, and its count.
 use native.Mathlib.Omega.{arith}
 use lib.ListN.{length}
 use Rattle.stage2.proofs.Runs.{list_place, noted}

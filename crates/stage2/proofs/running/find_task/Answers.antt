@@ -1,4 +1,4 @@
--- each return is the case of `task_of` that the tests before it leave.
+-- Each return is the case of `task_of` that the tests before it leave.
 use Rattle.sheets.proofs.Laws.{list_fits}
 use Rattle.stage2.proofs.Runs.{task_none, task_probed, task_crowded, task_upto, own_long}
 use Rattle.stage2.proofs.running.find_task.Goals as goal

@@ -1,4 +1,4 @@
--- the portion's checks, then its source picks which sheet is its own.
+-- The portion's checks, then its source picks which sheet is its own.
 use Rattle.stamps.specs.declared.Source.TheVariants.{A, B}
 use Rattle.rules.specs.World.{world, bundle}
 use Rattle.checks.proofs.Passing.{portion_fits}

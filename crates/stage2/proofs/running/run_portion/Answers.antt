@@ -1,4 +1,4 @@
--- the task settles it.
+-- The task settles it.
 use Rattle.rules.specs.World.{with_probe}
 use Rattle.checks.specs.Facing.{world_from}
 use Rattle.stage2.proofs.Runs.{run-idle, run_crowded, run_upto, upto_listed}

@@ -1,4 +1,4 @@
--- the pairs are counted, then written, and the entry added; or they do not fit.
+-- The pairs are counted, then written, and the entry added; or they do not fit.
 use borrow.Author.Rules.{rules}
 use native.Mathlib.Omega.{arith}
 use Rattle.pairs.specs.declared.walks.Scope.TheVariants.{Portion}

@@ -1,4 +1,4 @@
--- the verdict settles it, and `write_owed` does the rest.
+-- The verdict settles it, and `write_owed` does the rest.
 use Rattle.rules.specs.Calls.{effect}
 use Rattle.rules.specs.Refusals.{own_checks}
 use Rattle.rules.specs.World.{world, bundle, given}

@@ -1,4 +1,4 @@
--- the verdict settles it, then its source picks which sheet is its own.
+-- The verdict settles it, then its source picks which sheet is its own.
 use Rattle.stamps.specs.declared.Source.TheVariants.{A, B}
 use Rattle.rules.specs.Calls.{effect}
 use Rattle.rules.specs.World.{world, bundle, given}

@@ -1,4 +1,4 @@
--- the two are the same when what is left of them is.
+-- The two are the same when what is left of them is.
 use borrow.Author.Rules.{rules}
 use mathlib.Core.Path.{refl, sym, ◌∙◌}
 use native.Mathlib.Omega.{arith}

@@ -1,4 +1,4 @@
--- the two are the same when what is left of them is.
+-- The two are the same when what is left of them is.
 use Prim.Native.Nat.{◌≤◌, ◌-◌}
 use mathlib.Core.Path.{◌≡◌}
 use lib.ListN.{length, drop}

@@ -1,4 +1,4 @@
--- the commas passed and the fields of what is left are all the fields.
+-- The commas passed and the fields of what is left are all the fields.
 use borrow.Author.Rules.{rules}
 use Rattle.text.proofs.FieldTurns.{counted_first, counted_comma, counted_other, counted_all}
 use Rattle.text.proofs.fields.count.Goals as goal

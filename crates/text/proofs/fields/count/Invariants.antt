@@ -1,4 +1,4 @@
--- the commas passed and the fields of what is left are all the fields.
+-- The commas passed and the fields of what is left are all the fields.
 use Prim.Native.Nat.{◌≤◌, ◌-◌}
 use lib.ListN.{length}
 use Rattle.text.proofs.FieldTurns.{Counted}

@@ -1,4 +1,4 @@
--- the blanks cut are none of the text's own.
+-- The blanks cut are none of the text's own.
 use borrow.Author.Rules.{rules}
 use mathlib.Core.Path.{sym, ap, ◌∙◌}
 use lib.Seq.{take-length, length-take-le}

@@ -1,4 +1,4 @@
--- the blanks cut are none of the text's own.
+-- The blanks cut are none of the text's own.
 use Prim.Native.Nat.{◌≤◌}
 use mathlib.Core.Path.{◌≡◌}
 use lib.ListN.{length, take}

@@ -1,4 +1,4 @@
--- what each function below hands on is what `trim` and `raw_at` say.
+-- What each function below hands on is what `trim` and `raw_at` say.
 use Rattle.text.specs.Fields.{trim}
 use Rattle.text.proofs.FieldTurns.{to_end, field_is}
 use Rattle.text.proofs.fields.field.Goals as goal

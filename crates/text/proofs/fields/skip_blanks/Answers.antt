@@ -1,4 +1,4 @@
--- the blanks passed are none of the text's own.
+-- The blanks passed are none of the text's own.
 use borrow.Author.Rules.{rules}
 use mathlib.Core.Path.{refl, sym, ◌∙◌}
 use Rattle.text.proofs.FieldTurns.{to_end, front_blank, front_other, front_none}

@@ -1,4 +1,4 @@
--- field k of the line is field `left` of what is left of it.
+-- Field k of the line is field `left` of what is left of it.
 use borrow.Author.Rules.{rules}
 use mathlib.Core.Path.{refl, ◌∙◌}
 use Rattle.text.proofs.FieldTurns.{past_comma, past_other, past_end}

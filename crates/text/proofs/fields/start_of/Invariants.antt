@@ -1,4 +1,4 @@
--- field k of the line is field `left` of what is left of it.
+-- Field k of the line is field `left` of what is left of it.
 use Prim.Native.Nat.{◌≤◌, ◌-◌}
 use mathlib.Core.Path.{◌≡◌}
 use lib.ListN.{length, drop}

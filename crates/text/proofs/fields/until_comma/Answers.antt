@@ -1,4 +1,4 @@
--- what is passed and the first field of what is left are the first field.
+-- What is passed and the first field of what is left are the first field.
 use borrow.Author.Rules.{rules}
 use mathlib.Core.Path.{refl, sym, ◌∙◌}
 use lib.Seq.{length-take-le}

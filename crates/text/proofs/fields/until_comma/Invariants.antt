@@ -1,4 +1,4 @@
--- what is passed and the first field of what is left are the first field.
+-- What is passed and the first field of what is left are the first field.
 use Prim.Native.Nat.{◌≤◌, ◌-◌}
 use mathlib.Core.Path.{◌≡◌}
 use mathlib.Core.List.{◌++◌}

@@ -1,4 +1,4 @@
--- by whether there is room.
+-- By whether there is room.
 use mathlib.Core.Path.{refl}
 use borrow.Author.Tests.{lt-ltb, le-ltb}
 use Prim.Native.Nat.{◌<◌, ◌≤◌}

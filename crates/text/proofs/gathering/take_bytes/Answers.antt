@@ -1,4 +1,4 @@
--- what is left of the input makes of the buffer what all of it does.
+-- What is left of the input makes of the buffer what all of it does.
 use borrow.Author.Rules.{rules}
 use Rattle.text.proofs.GatherTurns.{taking_first, taking_byte, taking_line, taking_all}
 use Rattle.text.proofs.gathering.take_bytes.Goals as goal

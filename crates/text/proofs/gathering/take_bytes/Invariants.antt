@@ -1,4 +1,4 @@
--- what is left of the input makes of the buffer what all of it does.
+-- What is left of the input makes of the buffer what all of it does.
 use Prim.Native.Nat.{◌-◌}
 use mathlib.Core.Path.{◌≡◌}
 use lib.ListN.{length}

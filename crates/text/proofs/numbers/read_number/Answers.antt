@@ -1,4 +1,4 @@
--- the digits passed, with those that are left, make the number.
+-- The digits passed, with those that are left, make the number.
 use borrow.Author.Rules.{rules}
 use Prim.Native.Nat.{◌≤◌, ◌<◌}
 use native.Mathlib.Omega.{arith}

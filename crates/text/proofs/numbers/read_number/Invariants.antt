@@ -1,4 +1,4 @@
--- the digits passed, with those that are left, make the number.
+-- The digits passed, with those that are left, make the number.
 use Prim.Native.Nat.{◌≤◌, ◌-◌}
 use Rattle.text.proofs.WordTurns.{Read}
 use lib.ListN.{length}

@@ -1,4 +1,4 @@
--- the pieces make the whole.
+-- The pieces make the whole.
 use borrow.Author.Rules.{rules}
 use Rattle.text.proofs.PutTurns.{put_then}
 use Rattle.text.specs.Putting.{line_text}

@@ -1,4 +1,4 @@
--- what is left of the lines, put from here on, makes the whole.
+-- What is left of the lines, put from here on, makes the whole.
 use borrow.Author.Rules.{rules}
 use Prim.Native.Nat.{◌-◌}
 use native.Mathlib.Nat.{mul-le-mul_left}

@@ -1,4 +1,4 @@
--- what is left of the lines, put from here on, makes the whole.
+-- What is left of the lines, put from here on, makes the whole.
 use Prim.Native.Nat.{◌+◌, ◌*◌, ◌≤◌, ◌-◌}
 use lib.ListN.{length}
 use Rattle.text.proofs.PutTurns.{Midway}

@@ -1,4 +1,4 @@
--- a 32-bit number has at most ten digits.
+-- A 32-bit number has at most ten digits.
 use Rattle.text.specs.Putting.{decimal}
 use Rattle.text.proofs.putting.put_number.Goals as goal
 

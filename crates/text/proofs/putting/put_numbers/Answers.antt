@@ -1,4 +1,4 @@
--- what is left of the numbers, put from here on, makes the whole.
+-- What is left of the numbers, put from here on, makes the whole.
 use borrow.Author.Rules.{rules}
 use native.Mathlib.Omega.{arith}
 use mathlib.Core.Path.{ap}

@@ -1,4 +1,4 @@
--- what is left of the text, put from here on, makes the whole.
+-- What is left of the text, put from here on, makes the whole.
 use borrow.Author.Rules.{rules}
 use lib.ListN.{drop_of_length-le}
 use Rattle.text.proofs.FieldTurns.{left_at}

@@ -1,4 +1,4 @@
--- what is left of the text, put from here on, makes the whole.
+-- What is left of the text, put from here on, makes the whole.
 use Prim.Native.Nat.{◌+◌, ◌≤◌, ◌-◌}
 use mathlib.Core.Path.{◌≡◌}
 use lib.ListN.{length, drop}
