@@ -1,4 +1,4 @@
--- What the definitions give for document 01's worked session in heat 1, computed from the definitions: answers, pairs, stamps, and the one entry.
+-- Document 01's worked session in heat 1, computed from the definitions: answers, pairs, stamps, and the one entry.
 -- Proved by computing it. Assumes nothing.
 use Rattle.std.specs.Prelude.{◌≡◌, refl, [], ◌∷◌, ◌++◌, replicate}
 use Rattle.stamps.specs.Keys.{in_range, item_of, items_match, part_of}

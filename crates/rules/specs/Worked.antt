@@ -1,5 +1,5 @@
--- Document 01's worked session in heat 1, computed from the definitions: answers, pairs, stamps, and the one entry.
--- Proved by computing it. Assumes nothing.
+-- Document 01's worked session in heat 1: its calls, and the answers, pairs, stamps and the one entry on the way. That the definitions give
+-- them is computed in proofs/Worked.
 use Rattle.std.specs.Prelude.{false, List, [], ◌∷◌, ◌++◌, ℕ, ◌+◌, replicate}
 use Rattle.stamps.specs.declared.Source.TheVariants.{A, B}
 use Rattle.stamps.specs.declared.Message.{Message}

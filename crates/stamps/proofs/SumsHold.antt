@@ -1,4 +1,4 @@
--- The twelve small sums hold. Proved by opening the definitions and computing.
+-- The twelve small sums of document 01 hold: a single theorem about their list. Proved by opening the definitions and computing.
 -- Assumes nothing.
 use Rattle.std.specs.Prelude.{◌≡◌, true}
 use Rattle.stamps.specs.Counting.{all_of}

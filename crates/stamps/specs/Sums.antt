@@ -1,5 +1,4 @@
--- The twelve small sums of document 01: one list, and a single theorem about the list.
--- Proved by opening the definitions and computing. Assumes nothing.
+-- The twelve small sums of document 01, as one list. That every one of them holds is `sums_hold` in proofs/SumsHold.
 use Rattle.std.specs.Prelude.{Bool, not, ◌&&◌, List, [], ◌∷◌, ℕ, eqb}
 use Rattle.stamps.specs.declared.Message.{Message}
 use Rattle.stamps.specs.declared.Row.{Row}
