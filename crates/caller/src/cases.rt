@@ -9,6 +9,8 @@ use calls::performing::perform;
 use printout::{print_bad, print_line, print_reply};
 use rules::{Call, Feed, Places, Reply, Session};
 use stamps::{Message, Source};
+use std::io;
+use std::io::Write;
 
 // Places among the numbers: the record and its parts, the sizes of the sheets, and the sheets themselves.
 const RECORD: usize = 5;
@@ -143,18 +145,19 @@ fn perform_case(
 
 // Performs the call and prints what it leaves.
 fn answer_call(
+    to: &mut impl Write,
     head: [u32; SHEETS],
     a: &mut [u32],
     b: &mut [u32],
     probe: &mut [u32],
     out: &mut [u32],
-) {
+) -> io::Result<()> {
     let reply = perform_case(head, a, b, probe, out);
-    print_reply(reply);
-    print_line(b"A", a);
-    print_line(b"B", b);
-    print_line(b"PROBE", probe);
-    print_line(b"OUT", out);
+    print_reply(to, reply)?;
+    print_line(to, b"A", a)?;
+    print_line(to, b"B", b)?;
+    print_line(to, b"PROBE", probe)?;
+    print_line(to, b"OUT", out)
 }
 
 // A sheet with the numbers from a place on.
@@ -172,13 +175,14 @@ fn sheet_of(words: &[u32], from: usize, size: usize) -> [u32; SHEET]
 
 // Answers a case whose sheets have these sizes.
 fn answer_sheets(
+    to: &mut impl Write,
     head: [u32; SHEETS],
     words: &[u32],
     first: usize,
     second: usize,
     lists: usize,
     room: usize,
-)
+) -> io::Result<()>
     requires { (case_head + first + second + lists + room ≡ length words.now) × (first ≤ sheet_most) × (second ≤ sheet_most) × (lists ≤ sheet_most) × (room ≤ sheet_most) }
 {
     let b_at = SHEETS + first;
@@ -189,12 +193,13 @@ fn answer_sheets(
     let mut probe = sheet_of(words, probe_at, lists);
     let mut out = sheet_of(words, out_at, room);
     answer_call(
+        to,
         head,
         &mut a[..first],
         &mut b[..second],
         &mut probe[..lists],
         &mut out[..room],
-    );
+    )
 }
 
 // A number as the size of a sheet.
@@ -203,32 +208,32 @@ fn size_of(word: u32) -> usize {
 }
 
 // Answers the case of these numbers, if they are one: no sheet is too large, and no number is missing or left over.
-pub fn answer_case(words: &[u32]) {
+pub fn answer_case(to: &mut impl Write, words: &[u32]) -> io::Result<()> {
     if words.len() < SHEETS {
-        return print_bad();
+        return print_bad(to);
     }
     let head = head_of(words);
     if !is_good(head) {
-        return print_bad();
+        return print_bad(to);
     }
     let a = size_of(head[SIZES]);
     let b = size_of(head[SIZES + 1]);
     let probe = size_of(head[SIZES + 2]);
     let out = size_of(head[SIZES + 3]);
     if SHEET < a {
-        return print_bad();
+        return print_bad(to);
     }
     if SHEET < b {
-        return print_bad();
+        return print_bad(to);
     }
     if PROBE_WORDS < probe {
-        return print_bad();
+        return print_bad(to);
     }
     if OUTPUT_WORDS < out {
-        return print_bad();
+        return print_bad(to);
     }
     if words.len() != SHEETS + a + b + probe + out {
-        return print_bad();
+        return print_bad(to);
     }
-    answer_sheets(head, words, a, b, probe, out);
+    answer_sheets(to, head, words, a, b, probe, out)
 }

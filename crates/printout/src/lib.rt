@@ -4,9 +4,10 @@
 ghost use Rattle.std.specs.Prelude.{◌+◌, ◌≤◌, ◌<◌, length};
 ghost use Rattle.printout.specs.Pieces.{piece_most};
 
-use libc::STDOUT_FILENO;
 use replies::code_of;
 use rules::{Answer, Reply, Session, Why};
+use std::io;
+use std::io::Write;
 use text::putting::put_numbers;
 
 // The numbers that are put into a buffer and written at a time, each with a space and ten digits at most.
@@ -21,16 +22,16 @@ struct Told {
     n: u32,
 }
 
-pub fn print_bad() {
-    io::write_all(STDOUT_FILENO, b"BAD\n");
+pub fn print_bad(out: &mut impl Write) -> io::Result<()> {
+    out.write_all(b"BAD\n")
 }
 
-fn print_piece(numbers: &[u32])
+fn print_piece(out: &mut impl Write, numbers: &[u32]) -> io::Result<()>
     requires { length numbers.now ≤ piece_most }
 {
     let mut text = [0u8; TEXT];
     let end = put_numbers(&mut text, 0, numbers);
-    io::write_all(STDOUT_FILENO, &text[..end]);
+    out.write_all(&text[..end])
 }
 
 // Where the piece that starts at i ends.
@@ -45,19 +46,20 @@ fn piece_end(i: usize, n: usize) -> usize
 }
 
 // Numbers, each after a space.
-fn print_numbers(numbers: &[u32]) {
+fn print_numbers(out: &mut impl Write, numbers: &[u32]) -> io::Result<()> {
     let mut i = 0;
     while i < numbers.len() {
         let end = piece_end(i, numbers.len());
-        print_piece(&numbers[i..end]);
+        print_piece(out, &numbers[i..end])?;
         i = end;
     }
+    Ok(())
 }
 
-pub fn print_line(word: &[u8], numbers: &[u32]) {
-    io::write_all(STDOUT_FILENO, word);
-    print_numbers(numbers);
-    io::write_all(STDOUT_FILENO, b"\n");
+pub fn print_line(out: &mut impl Write, word: &[u8], numbers: &[u32]) -> io::Result<()> {
+    out.write_all(word)?;
+    print_numbers(out, numbers)?;
+    out.write_all(b"\n")
 }
 
 fn told_of(answer: Answer) -> Told {
@@ -79,42 +81,45 @@ fn told_of(answer: Answer) -> Told {
 }
 
 // The answer, with the count that a refusal needs where it names one.
-fn print_answer(answer: Answer) {
+fn print_answer(out: &mut impl Write, answer: Answer) -> io::Result<()> {
     let told = told_of(answer);
     if let Answer::Refused(why) = answer {
         if let Why::RoomShort(need) = why {
-            return print_line(b"ANSWER", &[told.kind, told.n, need]);
+            return print_line(out, b"ANSWER", &[told.kind, told.n, need]);
         }
     }
-    print_line(b"ANSWER", &[told.kind, told.n]);
+    print_line(out, b"ANSWER", &[told.kind, told.n])
 }
 
 // A record's numbers, in the order of a case.
-fn print_session(session: Session) {
+fn print_session(out: &mut impl Write, session: Session) -> io::Result<()> {
     let a = session.a;
     let b = session.b;
     let counts = session.counts;
     let lone = session.lone;
-    io::write_all(STDOUT_FILENO, b"SESSION");
-    print_numbers(&[
-        session.parts,
-        session.slots,
-        session.limit,
-        session.clock,
-        a.rows,
-        b.rows,
-        a.closed as u32,
-        b.closed as u32,
-    ]);
-    print_numbers(&counts);
-    print_numbers(&[session.next, lone.a, lone.b]);
-    io::write_all(STDOUT_FILENO, b"\n");
+    out.write_all(b"SESSION")?;
+    print_numbers(
+        out,
+        &[
+            session.parts,
+            session.slots,
+            session.limit,
+            session.clock,
+            a.rows,
+            b.rows,
+            a.closed as u32,
+            b.closed as u32,
+        ],
+    )?;
+    print_numbers(out, &counts)?;
+    print_numbers(out, &[session.next, lone.a, lone.b])?;
+    out.write_all(b"\n")
 }
 
 // The answer and the record that a call handed back.
-pub fn print_reply(reply: Reply) {
+pub fn print_reply(out: &mut impl Write, reply: Reply) -> io::Result<()> {
     let answer = reply.answer;
     let session = reply.session;
-    print_answer(answer);
-    print_session(session);
+    print_answer(out, answer)?;
+    print_session(out, session)
 }
