@@ -1,8 +1,11 @@
 // What is printed: an answer, a session record and every word of the sheets, each as a line of a word and numbers.
 #![tactic(auto)]
 
-ghost use Rattle.std.specs.Prelude.{◌+◌, ◌≤◌, ◌<◌, length};
+ghost use Rattle.std.specs.Prelude.{◌≡◌, ◌+◌, ◌≤◌, ◌<◌, ◌++◌, length, OnOk};
+ghost use Rattle.std.specs.Io.KnownBytes.{Appends};
+ghost use Rattle.text.specs.Putting.{LF, numbers_text, line_text};
 ghost use Rattle.printout.specs.Pieces.{piece_most};
+ghost use Rattle.printout.specs.Printed.{BAD, told_of, answer_line, session_line, reply_lines};
 
 use replies::code_of;
 use rules::{Answer, Reply, Session, Why};
@@ -22,12 +25,15 @@ struct Told {
     n: u32,
 }
 
-pub fn print_bad(out: &mut impl Write) -> io::Result<()> {
+pub fn print_bad<W: Write>(out: &mut W) -> io::Result<()>
+    ensures { OnOk result (Appends (W.contents out.old) (W.contents out.new) (BAD ++ LF)) }
+{
     out.write_all(b"BAD\n")
 }
 
-fn print_piece(out: &mut impl Write, numbers: &[u32]) -> io::Result<()>
+fn print_piece<W: Write>(out: &mut W, numbers: &[u32]) -> io::Result<()>
     requires { length numbers.now ≤ piece_most }
+    ensures { OnOk result (Appends (W.contents out.old) (W.contents out.new) (numbers_text numbers.now)) }
 {
     let mut text = [0u8; TEXT];
     let end = put_numbers(&mut text, 0, numbers);
@@ -46,7 +52,9 @@ fn piece_end(i: usize, n: usize) -> usize
 }
 
 // Numbers, each after a space.
-fn print_numbers(out: &mut impl Write, numbers: &[u32]) -> io::Result<()> {
+fn print_numbers<W: Write>(out: &mut W, numbers: &[u32]) -> io::Result<()>
+    ensures { OnOk result (Appends (W.contents out.old) (W.contents out.new) (numbers_text numbers.now)) }
+{
     let mut i = 0;
     while i < numbers.len() {
         let end = piece_end(i, numbers.len());
@@ -56,13 +64,17 @@ fn print_numbers(out: &mut impl Write, numbers: &[u32]) -> io::Result<()> {
     Ok(())
 }
 
-pub fn print_line(out: &mut impl Write, word: &[u8], numbers: &[u32]) -> io::Result<()> {
+pub fn print_line<W: Write>(out: &mut W, word: &[u8], numbers: &[u32]) -> io::Result<()>
+    ensures { OnOk result (Appends (W.contents out.old) (W.contents out.new) (line_text word.now numbers.now)) }
+{
     out.write_all(word)?;
     print_numbers(out, numbers)?;
     out.write_all(b"\n")
 }
 
-fn told_of(answer: Answer) -> Told {
+fn told_of(answer: Answer) -> Told
+    ensures { result ≡ told_of answer }
+{
     match answer {
         Answer::Opened => Told { kind: 0, n: 0 },
         Answer::Taken(n) => Told { kind: 1, n },
@@ -81,7 +93,9 @@ fn told_of(answer: Answer) -> Told {
 }
 
 // The answer, with the count that a refusal needs where it names one.
-fn print_answer(out: &mut impl Write, answer: Answer) -> io::Result<()> {
+fn print_answer<W: Write>(out: &mut W, answer: Answer) -> io::Result<()>
+    ensures { OnOk result (Appends (W.contents out.old) (W.contents out.new) (answer_line answer)) }
+{
     let told = told_of(answer);
     if let Answer::Refused(why) = answer {
         if let Why::RoomShort(need) = why {
@@ -92,7 +106,9 @@ fn print_answer(out: &mut impl Write, answer: Answer) -> io::Result<()> {
 }
 
 // A record's numbers, in the order of a case.
-fn print_session(out: &mut impl Write, session: Session) -> io::Result<()> {
+fn print_session<W: Write>(out: &mut W, session: Session) -> io::Result<()>
+    ensures { OnOk result (Appends (W.contents out.old) (W.contents out.new) (session_line session)) }
+{
     let a = session.a;
     let b = session.b;
     let counts = session.counts;
@@ -117,7 +133,9 @@ fn print_session(out: &mut impl Write, session: Session) -> io::Result<()> {
 }
 
 // The answer and the record that a call handed back.
-pub fn print_reply(out: &mut impl Write, reply: Reply) -> io::Result<()> {
+pub fn print_reply<W: Write>(out: &mut W, reply: Reply) -> io::Result<()>
+    ensures { OnOk result (Appends (W.contents out.old) (W.contents out.new) (reply_lines reply)) }
+{
     let answer = reply.answer;
     let session = reply.session;
     print_answer(out, answer)?;
