@@ -2,7 +2,13 @@
 // is decided in the crates below; here bytes are read, handed on and written.
 #![tactic(auto)]
 
-ghost use Rattle.std.specs.Prelude.{◌≤◌, length, IfOk};
+ghost use Rattle.std.specs.Prelude.{◌≤◌, ℕ, List, [], length, take, Option, IfOk, OnOk, IfSome, IsTrue};
+ghost use Rattle.std.specs.Io.KnownBytes.{Appends, append_known};
+ghost use Rattle.text.specs.Gathering.{rest_line, lines_of};
+ghost use Rattle.rules.specs.World.{bundle};
+ghost use Rattle.answering.specs.Answering.{Left, silent, unstarted};
+ghost use Rattle.lines.specs.Serving.{talk};
+ghost use Rattle.pitbox.specs.Session.{Underway, Turned};
 
 use answering::{OUTPUT, REPLY, State, new_state};
 use lines::serving::{finish, serve};
@@ -32,22 +38,25 @@ struct Going {
 }
 
 // Writes the first bytes of a text.
-fn write(to: &mut impl Write, text: &[u8], end: usize) -> io::Result<()>
+fn write<W: Write>(to: &mut W, text: &[u8], end: usize) -> io::Result<()>
     requires { end ≤ length text.now }
+    ensures { OnOk result (Appends (W.contents to.old) (W.contents to.new) (take end text.now)) }
 {
     to.write_all(&text[..end])
 }
 
-// A reply put after those gathered; where it does not fit, they are written first. It answers where the gathered ones end.
-fn add_reply(
-    to: &mut impl Write,
+// A reply put after those gathered; where it does not fit, they are written first. It answers where those gathered end: what is
+// written and what is gathered behind it grow by the reply.
+fn add_reply<W: Write>(
+    to: &mut W,
     text: &mut [u8],
     end: usize,
     reply: &[u8],
     bytes: usize,
 ) -> io::Result<usize>
     requires { (end ≤ length text.old) × (bytes ≤ length text.old) × (bytes ≤ length reply.now) }
-    ensures { IfOk result (λ end. end ≤ length text.old) }
+    ensures within { IfOk result (λ next. next ≤ length text.old) }
+    ensures bytes { IfOk result (λ next. Appends (append_known (W.contents to.old) (take end text.old)) (append_known (W.contents to.new) (take next text.new)) (take bytes reply.now)) }
 {
     if bytes <= text.len() - end {
         return Ok(put_text(text, end, &reply[..bytes]));
@@ -56,9 +65,9 @@ fn add_reply(
     Ok(put_text(text, 0, &reply[..bytes]))
 }
 
-// Answers the lines that end in the first n bytes of the input, and writes their replies.
-fn feed(
-    to: &mut impl Write,
+// Answers the lines that end in the first n bytes of the input, and writes their replies: none is left to answer.
+fn feed<W: Write>(
+    to: &mut W,
     going: Going,
     input: &[u8],
     n: usize,
@@ -70,6 +79,9 @@ fn feed(
     text: &mut [u8; TEXT],
 ) -> io::Result<Going>
     requires { n ≤ length input.now }
+    ensures on { IfOk result (λ next. IsTrue next.on) }
+    ensures answers { (all : Left) (begun : List ℕ) (k : Option (List ℕ)) → Underway all begun k (take n input.now) going.state going.line going.have (bundle a.old b.old probe.old) out.old (W.contents to.old) →
+        IfOk result (λ next. Underway all begun k [] next.state next.line next.have (bundle a.new b.new probe.new) out.new (W.contents to.new)) }
 {
     let piece = &input[..n];
     let mut state = going.state;
@@ -93,16 +105,19 @@ fn feed(
     })
 }
 
-// Answers a last line without LF.
-fn answer_rest(
-    to: &mut impl Write,
+// Answers a last line without LF: then everything is said and written.
+fn answer_rest<W: Write>(
+    to: &mut W,
     going: Going,
     a: &mut [u32; ROWS],
     b: &mut [u32; ROWS],
     probe: &mut [u32; PROBES],
     out: &mut [u32; OUTPUT],
     reply: &mut [u8; REPLY],
-) -> io::Result<()> {
+) -> io::Result<()>
+    ensures { (all : Left) (begun : List ℕ) (k : Option (List ℕ)) → Underway all begun k [] going.state going.line going.have (bundle a.old b.old probe.old) out.old (W.contents to.old) →
+        OnOk result (Appends k (W.contents to.new) (talk all (rest_line begun)).text) }
+{
     let line = going.line;
     let state = going.state;
     let answered = finish(state, &line, going.have, a, b, probe, out, reply);
@@ -110,16 +125,18 @@ fn answer_rest(
 }
 
 // Reads once and answers what came. The end of the input ends the program, and so does a read or a write that fails.
-fn turn(
-    from: &mut impl Read,
-    to: &mut impl Write,
+fn turn<R: Read, W: Write>(
+    from: &mut R,
+    to: &mut W,
     going: Going,
     input: &mut [u8; INPUT],
     a: &mut [u32; ROWS],
     b: &mut [u32; ROWS],
     probe: &mut [u32; PROBES],
     out: &mut [u32; OUTPUT],
-) -> io::Result<Going> {
+) -> io::Result<Going>
+    ensures { IfOk result (λ next. Turned (R.remaining from.old) going (bundle a.old b.old probe.old) out.old (W.contents to.old) (R.remaining from.new) next (bundle a.new b.new probe.new) out.new (W.contents to.new)) }
+{
     let mut reply = [0; REPLY];
     let mut text = [0; TEXT];
     let n = from.read(input)?;
@@ -132,15 +149,20 @@ fn turn(
     Ok(stopped)
 }
 
-// A proved loop has to end, and nothing says that the input does: it takes as many turns as no run uses up.
-fn main(rt: HostRuntime) -> io::Result<()> {
-    // Neither has a buffer of its own, so what is written is there before the next read waits.
-    let mut from = rt.stdin();
-    let mut to = rt.stdout();
-    let mut a = [0; ROWS];
-    let mut b = [0; ROWS];
-    let mut probe = [0; PROBES];
-    let mut out = [0; OUTPUT];
+// Answers the whole input, and says whether its end was met: then exactly the answers to the lines of the input are written, in
+// their order, wherever reads cut it. A proved loop has to end, and nothing says that the input does: it takes as many turns as
+// no run uses up.
+fn answer_input<R: Read, W: Write>(
+    from: &mut R,
+    to: &mut W,
+    a: &mut [u32; ROWS],
+    b: &mut [u32; ROWS],
+    probe: &mut [u32; PROBES],
+    out: &mut [u32; OUTPUT],
+) -> io::Result<bool>
+    ensures { IfOk result (λ ended. IsTrue ended → IfSome (R.remaining from.old) (λ input. Appends (W.contents to.old) (W.contents to.new)
+        (talk (silent unstarted (bundle a.old b.old probe.old) out.old) (lines_of input)).text)) }
+{
     let mut input = [0; INPUT];
     let state = new_state();
     let mut going = Going {
@@ -150,12 +172,22 @@ fn main(rt: HostRuntime) -> io::Result<()> {
         on: true,
     };
     for _ in 0..u64::MAX {
-        going = turn(
-            &mut from, &mut to, going, &mut input, &mut a, &mut b, &mut probe, &mut out,
-        )?;
+        going = turn(from, to, going, &mut input, a, b, probe, out)?;
         if !going.on {
-            break;
+            return Ok(true);
         }
     }
+    Ok(false)
+}
+
+fn main(rt: HostRuntime) -> io::Result<()> {
+    // Neither has a buffer of its own, so what is written is there before the next read waits.
+    let mut from = rt.stdin();
+    let mut to = rt.stdout();
+    let mut a = [0; ROWS];
+    let mut b = [0; ROWS];
+    let mut probe = [0; PROBES];
+    let mut out = [0; OUTPUT];
+    answer_input(&mut from, &mut to, &mut a, &mut b, &mut probe, &mut out)?;
     Ok(())
 }
