@@ -1,8 +1,9 @@
 // The session program: lines from standard input, replies to standard output. What a line means and what it is answered
-// is decided in the crates below; here bytes are read, handed on and written.
+// is decided in the crates below; here bytes are read, handed on and written. A read or a write that fails ends the program with
+// that error: the sheets are then as the lines answered so far have left them, and the writer may have some of the replies.
 #![tactic(auto)]
 
-ghost use Rattle.std.specs.Prelude.{◌≤◌, ℕ, List, [], length, take, Option, IfOk, OnOk, IfSome, IsTrue};
+ghost use Rattle.std.specs.Prelude.{◌≡◌, ◌≤◌, ℕ, List, [], length, take, Option, IfOk, OnOk, OnErr, IfSome, IsTrue};
 ghost use Rattle.std.specs.Io.KnownBytes.{Appends, append_known};
 ghost use Rattle.text.specs.Gathering.{rest_line, lines_of};
 ghost use Rattle.rules.specs.World.{bundle};
@@ -56,6 +57,7 @@ fn add_reply<W: Write>(
 ) -> io::Result<usize>
     requires { (end ≤ length text.old) × (bytes ≤ length text.old) × (bytes ≤ length reply.now) }
     ensures within { IfOk result (λ next. next ≤ length text.old) }
+    ensures err { OnErr result (text.new ≡ text.old) }
     ensures bytes { IfOk result (λ next. Appends (append_known (W.contents to.old) (take end text.old)) (append_known (W.contents to.new) (take next text.new)) (take bytes reply.now)) }
 {
     if bytes <= text.len() - end {

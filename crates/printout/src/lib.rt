@@ -1,4 +1,5 @@
-// What is printed: an answer, a session record and every word of the sheets, each as a line of a word and numbers.
+// What is printed: an answer, a session record and every word of the sheets, each as a line of a word and numbers. What a failed
+// write leaves is the writer's: it may have some of the bytes. Nothing else is changed, and there is no other error.
 #![tactic(auto)]
 
 ghost use Rattle.std.specs.Prelude.{◌≡◌, ◌+◌, ◌≤◌, ◌<◌, ◌++◌, length, OnOk};

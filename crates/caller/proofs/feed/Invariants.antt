@@ -1,4 +1,4 @@
--- the bytes that are left fall.
+-- The bytes that are left fall.
 use Rattle.std.proofs.Common.{length, ◌-◌, ◌≤◌}
 use Rattle.caller.proofs.feed.Given as goal
 

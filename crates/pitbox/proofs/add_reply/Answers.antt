@@ -1,4 +1,4 @@
--- the reply stands behind the replies gathered, or behind those that are written.
+-- The reply stands behind the replies gathered, or behind those that are written.
 use Rattle.std.proofs.Common.{◌≡◌, ◌+◌, ◌≤◌, length, take, arith}
 use Rattle.std.proofs.lemmas.List.{length-take-le}
 use Rattle.pitbox.proofs.Underway.{put_behind, known_more, known_next}

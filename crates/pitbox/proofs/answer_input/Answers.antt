@@ -1,4 +1,4 @@
--- each turn adds its bytes, and the last one meets the end of the input.
+-- Each turn adds its bytes, and the last one meets the end of the input.
 use Rattle.std.proofs.Common.{◌≡◌, [], ◌++◌, Bool, true, false, refl}
 use Rattle.std.specs.Prelude.{not, IsTrue, IsFalse}
 use Rattle.std.proofs.KnownBytes.{Consumes-nil, Consumes-trans}

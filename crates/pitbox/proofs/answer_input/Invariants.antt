@@ -1,4 +1,4 @@
--- the bytes read so far are answered, up to the line that is begun.
+-- The bytes read so far are answered, up to the line that is begun.
 use Rattle.std.proofs.Common.{List, [], ℕ}
 use Rattle.std.specs.Io.KnownBytes.{Consumes}
 use Rattle.text.specs.Gathering.{cut}

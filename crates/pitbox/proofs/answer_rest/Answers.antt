@@ -1,4 +1,4 @@
--- the end of the input answers the rest.
+-- The end of the input answers the rest.
 use Rattle.std.proofs.Common.{◌≤◌, length, arith}
 use Rattle.std.proofs.lemmas.Result.{on_ok_weaker}
 use Rattle.pitbox.proofs.Underway.{rest_comes}

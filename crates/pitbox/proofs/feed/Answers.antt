@@ -1,4 +1,4 @@
--- each look at the input gets the session on.
+-- Each look at the input gets the session on.
 use Rattle.std.proofs.Common.{◌≤◌, length, arith}
 use Rattle.pitbox.proofs.Underway.{serves_on}
 use Rattle.pitbox.proofs.feed.Goals as goal

@@ -1,4 +1,4 @@
--- the bytes of the input that are left fall, the replies gathered stay within their buffer, and the session is under way.
+-- The bytes of the input that are left fall, the replies gathered stay within their buffer, and the session is under way.
 use Rattle.std.proofs.Common.{length, take, drop, ◌-◌, ◌≤◌, List, ℕ}
 use Rattle.std.specs.Prelude.{Option}
 use Rattle.std.specs.Io.KnownBytes.{append_known}

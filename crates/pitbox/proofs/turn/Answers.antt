@@ -1,4 +1,4 @@
--- what was read is answered.
+-- What was read is answered.
 use Rattle.pitbox.proofs.Underway.{turned_on}
 use Rattle.pitbox.proofs.turn.Goals as goal
 

@@ -1,4 +1,4 @@
--- the piece written goes on where those before it ended.
+-- The piece written goes on where those before it ended.
 use Rattle.std.proofs.Common.{◌≤◌, arith}
 use Rattle.printout.proofs.Texts.{appends-piece}
 use Rattle.printout.proofs.print_numbers.Goals as goal

@@ -1,4 +1,4 @@
--- the numbers before the place are written, and those that are left fall.
+-- The numbers before the place are written, and those that are left fall.
 use Rattle.std.proofs.Common.{length, take, ◌-◌, ◌≤◌}
 use Rattle.std.specs.Io.KnownBytes.{Appends}
 use Rattle.text.specs.Putting.{numbers_text}

@@ -1,4 +1,4 @@
--- the bytes written are those put, for which the buffer has room.
+-- The bytes written are those put, for which the buffer has room.
 use Rattle.std.proofs.Common.{◌≤◌, length, arith}
 use Rattle.text.specs.Putting.{numbers_text}
 use Rattle.printout.proofs.Texts.{put_first}

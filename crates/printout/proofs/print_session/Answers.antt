@@ -1,4 +1,4 @@
--- the pieces make the line.
+-- The pieces make the line.
 use Rattle.std.proofs.Common.{[], ◌∷◌}
 use Rattle.std.proofs.lemmas.Result.{on_ok_weaker}
 use Rattle.text.specs.Putting.{line_text}

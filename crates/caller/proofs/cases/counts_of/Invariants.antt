@@ -1,4 +1,4 @@
--- there are as many counts.
+-- There are as many counts.
 use Rattle.std.proofs.Common.{◌-◌, ◌≤◌}
 use Rattle.caller.proofs.cases.counts_of.Given as goal
 

@@ -1,4 +1,4 @@
--- there are as many numbers.
+-- There are as many numbers.
 use Rattle.std.proofs.Common.{◌-◌, ◌≤◌}
 use Rattle.caller.specs.Cases.{case_head}
 use Rattle.caller.proofs.cases.head_of.Given as goal

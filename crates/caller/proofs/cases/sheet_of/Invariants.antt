@@ -1,4 +1,4 @@
--- there are as many numbers, and the words that are left fall.
+-- There are as many numbers, and the words that are left fall.
 use Rattle.std.proofs.Common.{◌-◌, ◌≤◌}
 use Rattle.caller.proofs.cases.sheet_of.Given as goal
 
