@@ -7,8 +7,8 @@ use Prim.Native.Nat.{ℕ, ◌-◌}
 use native.Mathlib.Omega.{arith}
 use lib.ListN.{take, drop, drop_of_length-le}
 use borrow.Author.Tests.{eq-eqb, ne_eqb}
-use Rattle.text.specs.Gathering.{Held, cut, lines_from, gather}
-use Rattle.text.proofs.Laws.{Holds, holds_first, Found, gather_finds, gather_all}
+use Rattle.text.specs.Gathering.{Held, Holds, cut, lines_from, gather}
+use Rattle.text.proofs.Laws.{holds_first, Found, gather_finds, gather_all}
 use Rattle.rules.specs.World.{Sheets}
 use Rattle.reading.specs.Reading.{line_most}
 use Rattle.reading.proofs.Laws.{read_held}

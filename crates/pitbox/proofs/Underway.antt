@@ -8,8 +8,8 @@ use Rattle.std.specs.Prelude.{Option, Some, None, Result, Ok, Err, IfOk, IfSome,
 use Rattle.std.specs.Io.KnownBytes.{Appends, Consumes, IsAtEnd, append_known}
 use Rattle.std.proofs.KnownBytes.{Appends-nil, Appends-trans, Consumes-trans, Consumes-whole}
 use Rattle.text.specs.Putting.{Put}
-use Rattle.text.specs.Gathering.{Held, cut, rest_line, lines_from, lines_of, gather}
-use Rattle.text.proofs.Laws.{Holds, holds_first, Found, gather_all, took_finds, cut_pieces}
+use Rattle.text.specs.Gathering.{Held, Holds, cut, rest_line, lines_from, lines_of, gather}
+use Rattle.text.proofs.Laws.{holds_first, Found, gather_all, took_finds, cut_pieces}
 use Rattle.rules.specs.World.{Sheets}
 use Rattle.reading.specs.Reading.{line_most}
 use Rattle.reading.proofs.Laws.{read_held}

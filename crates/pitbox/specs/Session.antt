@@ -1,8 +1,7 @@
 -- How far a session has come, and what it has written at its end.
 use Rattle.std.specs.Prelude.{◌≡◌, IsTrue, IsFalse, List, [], ℕ, Option}
 use Rattle.std.specs.Io.KnownBytes.{Appends, Consumes, IsAtEnd}
-use Rattle.text.specs.Gathering.{cut, rest_line}
-use Rattle.text.proofs.Laws.{Holds}
+use Rattle.text.specs.Gathering.{cut, rest_line, Holds}
 use Rattle.rules.specs.World.{Sheets}
 use Rattle.reading.specs.Reading.{line_most}
 use Rattle.answering.specs.Answering.{Left, left}

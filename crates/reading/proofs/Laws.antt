@@ -13,7 +13,7 @@ use Rattle.stamps.specs.declared.Source.{Source}
 use Rattle.text.specs.Fields.{fields, field_at}
 use Rattle.text.specs.declared.numbers.Number.{Number}
 use Rattle.text.specs.declared.numbers.Number.TheVariants as number
-use Rattle.text.proofs.Laws.{Holds}
+use Rattle.text.specs.Gathering.{Holds}
 use Rattle.sheets.specs.Layout.{pairs_need}
 use Rattle.rules.specs.Rounds.{room_in}
 use Rattle.reading.specs.Reading.{line_most, number_at, side_at, three_of, start, arrive, sourced_of, evict, run, close, room_most, roomed, drain, lone, close_line, drain_line, line_of, read_line}

@@ -3,17 +3,17 @@
 use mathlib.Core.Path.{◌≡◌, refl, sym, ap, ◌∙◌}
 use mathlib.Core.Bool.{Bool, true, false, cond}
 use mathlib.Core.List.{List, [], ◌∷◌, ◌++◌, append_assoc}
-use Prim.Native.Nat.{ℕ, zero, suc, ◌+◌, ◌-◌, ◌*◌, ◌/◌, ◌%◌, ◌^◌, ◌≤◌, ◌<◌, min}
+use Prim.Native.Nat.{ℕ, zero, suc, ◌+◌, ◌-◌, ◌*◌, ◌/◌, ◌%◌, ◌^◌, ◌≤◌, ◌<◌}
 use native.Mathlib.Nat.{pow-succ'}
 use native.Mathlib.Omega.{arith}
 use native.Mathlib.Numerals.{add-one}
 use lib.Dec.{ltb}
-use lib.ListN.{length, take, drop, set, length-append, length-set}
+use lib.ListN.{length, drop, set, length-append, length-set}
 use lib.Seq.{take_all, take-suc-set, take-append-le, drop-drop}
 use borrow.Author.Tests.{ltb-true, ltb-false, le-leb}
 use Rattle.text.specs.declared.gathering.Gathered.{Gathered}
 use Rattle.text.specs.declared.numbers.Number.TheVariants as number
-use Rattle.text.specs.Gathering.{is_lf, Cut, only, before, cut, lines_from, kept_len, kept_line, Held, held, gather, Took}
+use Rattle.text.specs.Gathering.{is_lf, Cut, only, before, cut, lines_from, kept_len, kept_line, Held, held, gather, Took, Holds}
 use Rattle.text.specs.Numbers.{is_digit, digits_from}
 use Rattle.text.specs.Putting.{Put, digits_up, number_most, decimal}
 
@@ -39,12 +39,6 @@ unfolding lines_from
 lines_pieces l xs ys = rw (cut_pieces, append_assoc)
 
 -- ---- a line in its buffer
-
--- a buffer of `most` bytes holds as many first bytes of the line
-pub record Holds (most : ℕ) (l : List ℕ) (have : ℕ) (line : List ℕ) : Type 0 where
-  pub long : length l ≡ most
-  pub size : have ≡ min most (length line)
-  pub same : take have l ≡ take most line
 
 pub holds_first : (most : ℕ) (l : List ℕ) → length l ≡ most → Holds most l 0 []
 holds_first most l h = record { long = h; size = omega arith; same = sym (take_all most [] (omega arith)) }

@@ -1,5 +1,5 @@
 -- How bytes become lines: "A line ends at LF or at the end of input, an empty rest giving no line."
-use Rattle.std.specs.Prelude.{◌≡◌, Bool, true, false, cond, List, [], ◌∷◌, ◌++◌, ℕ, ◌+◌, ◌<◌, eqb, ltb, length, drop, set}
+use Rattle.std.specs.Prelude.{◌≡◌, Bool, true, false, cond, List, [], ◌∷◌, ◌++◌, ℕ, ◌+◌, ◌<◌, eqb, ltb, min, length, take, drop, set}
 use Rattle.text.specs.declared.gathering.Gathered.{Gathered}
 
 -- 10 is LF
@@ -48,6 +48,12 @@ kept_len most have = cond (ltb have most) (have + 1) have
 -- and the buffer
 abbrev pub kept_line : ℕ → List ℕ → ℕ → ℕ → List ℕ
 kept_line most l have x = cond (ltb have most) (set l have x) l
+
+-- a buffer of `most` bytes holds as many first bytes of the line
+pub record Holds (most : ℕ) (l : List ℕ) (have : ℕ) (line : List ℕ) : Type 0 where
+  pub long : length l ≡ most
+  pub size : have ≡ min most (length line)
+  pub same : take have l ≡ take most line
 
 -- what is handed back, and the buffer
 pub record Held : Type 0 where
