@@ -1,13 +1,11 @@
--- What the layers above may know of a line answered: its promise allows one result. Assumes nothing.
-use mathlib.Core.Path.{◌≡◌, sym, ap, ◌∙◌}
-use mathlib.Core.List.{List}
-use Prim.Native.Nat.{ℕ}
-use Rattle.text.proofs.Laws.{put_one_result}
+-- A promise allows one result.
+use Rattle.std.proofs.Common.{◌≡◌, sym, ap, ◌∙◌, ℕ, List}
+use Rattle.std.specs.Prelude.{Option}
 use Rattle.rules.specs.World.{Sheets}
-use Rattle.answering.specs.Answering.{Left, Says}
-use Rattle.answering.specs.declared.State.{State}
+use Rattle.rules.specs.declared.Session.{Session}
+use Rattle.answering.specs.Answering.{Left, left}
 
-pub says_one_result : {x : Left} {d : List ℕ} {t t' : State} {n n' : ℕ} {z z' : Sheets} {o o' e e' : List ℕ} → Says x d t n z o e → Says x d t' n' z' o' e'
-    → (t ≡ t') × (n ≡ n') × (z ≡ z') × (o ≡ o') × (e ≡ e')
-says_one_result r q = let s = r.same ∙ sym q.same in let p = put_one_result r.text q.text in
-    (ap (λ (y : Left). y.state) s, p.0, ap (λ (y : Left). y.sheets) s, ap (λ (y : Left). y.out) s, p.1)
+pub says_one_result : {x : Left} {t t' : Option Session} {z z' : Sheets} {o o' e e' : List ℕ} → left t z o e ≡ x → left t' z' o' e' ≡ x
+    → (t ≡ t') × (z ≡ z') × (o ≡ o') × (e ≡ e')
+says_one_result p q = let s = p ∙ sym q in
+    (ap (λ (y : Left). y.state) s, ap (λ (y : Left). y.sheets) s, ap (λ (y : Left). y.out) s, ap (λ (y : Left). y.text) s)

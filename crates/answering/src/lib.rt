@@ -1,18 +1,18 @@
-// One line answered: what it asks for is done on the lent sheets, and its reply is put into a lent buffer.
+// One line answered: what it asks for is done on the lent sheets, and its reply is put into a lent text.
 #![tactic(auto)]
 
-ghost use Rattle.std.specs.Prelude.{◌≡◌, ◌≤◌, length};
+ghost use Rattle.std.specs.Prelude.{◌≡◌, ◌≤◌, length, Option};
 ghost use Rattle.rules.specs.World.{bundle};
-ghost use Rattle.rules.specs.Answers.{written_of, refused};
-ghost use Rattle.reading.specs.Reading.{room_most, read_line};
-ghost use Rattle.answering.specs.Answering.{unstarted, goes_on, begins, turned, asks, asks_in, turn_of, answered, Says};
+ghost use Rattle.reading.specs.Reading.{read_line};
+ghost use Rattle.answering.specs.Answering.{began, turned, asks, asks_in, turn_of, left, answered};
 
-use calls::opening::{new_session, open};
+use arrayvec::ArrayVec;
+use calls::opening::open;
 use calls::performing::perform;
 use reading::{Line, ROOM, read_line};
 use replies::put_reply;
 use rules::{Answer, Call, Reply, Session, Why};
-use sheets::layout::{PAIR, pairs_need, singles_need};
+use sheets::layout::{PAIR, SINGLE, words_of};
 
 // The words of the output.
 pub const OUTPUT: usize = ROOM as usize * PAIR;
@@ -20,166 +20,93 @@ pub const OUTPUT: usize = ROOM as usize * PAIR;
 // The bytes of the longest reply: 38 for each pair, which a row without partner does not use up, and 25 for the answer.
 pub const REPLY: usize = 38 * ROOM as usize + 25;
 
-// Whether a START was accepted, and the session that it began.
-#[derive(Clone, Copy)]
-pub struct State {
-    pub started: bool,
-    pub session: Session,
-}
-
-// What a line is told, and the state after it.
-#[derive(Clone, Copy)]
-struct Outcome {
-    answer: Answer,
-    state: State,
-}
-
-// The state after a line, and the bytes of its reply.
-#[derive(Clone, Copy)]
-pub struct Answered {
-    pub state: State,
-    pub bytes: usize,
-}
-
-// Before any START.
-pub fn new_state() -> State
-    ensures { result ≡ unstarted }
+// The session that a START opened goes on, or the old one where it was refused.
+fn begin(state: &mut Option<Session>, reply: Reply) -> Answer
+    ensures answer { result ≡ reply.answer }
+    ensures state { state.new ≡ began state.old reply }
 {
-    State {
-        started: false,
-        session: new_session(0, 0, 0),
+    if !matches!(reply.answer, Answer::Refused(_)) {
+        *state = Some(reply.session);
     }
+    reply.answer
 }
 
-fn is_refused(answer: Answer) -> bool
-    ensures { result ≡ refused answer }
-{
-    match answer {
-        Answer::Opened => false,
-        Answer::Taken(_) => false,
-        Answer::Flushed(_) => false,
-        Answer::Ran(_) => false,
-        Answer::Shut => false,
-        Answer::More(_) => false,
-        Answer::Done(_) => false,
-        Answer::MoreLone(_) => false,
-        Answer::DoneLone(_) => false,
-        Answer::Refused(_) => true,
-    }
-}
-
-// The session that a call hands back goes on.
-fn go_on(reply: Reply) -> Outcome
-    ensures { result ≡ goes_on reply }
-{
-    let answer = reply.answer;
-    let session = reply.session;
-    Outcome {
-        answer,
-        state: State {
-            started: true,
-            session,
-        },
-    }
-}
-
-// The session that a START opened, or the old state where it was refused.
-fn begin(state: State, reply: Reply) -> Outcome
-    ensures { result ≡ begins state reply }
-{
-    let answer = reply.answer;
-    if is_refused(answer) {
-        return Outcome { answer, state };
-    }
-    go_on(reply)
-}
-
-// A call in a session; without one it is refused.
+// A call in a session; without one, before any accepted START, it is refused. The sheets and the output stay apart here and
+// above: document 01 lends each as a slice, and a struct that held them would need a clause on each one's ghost name in every function.
+#[tactic(auto, unfolding(crate::specs::Answering::asks))]
 fn ask(
-    state: State,
+    state: &mut Option<Session>,
     call: Call,
     a: &mut [u32],
     b: &mut [u32],
     probe: &mut [u32],
     out: &mut [u32],
-) -> Outcome
-    ensures { turned result (bundle a.new b.new probe.new) out.new ≡ asks call state (bundle a.old b.old probe.old) out.old }
+) -> Answer
+    ensures { turned result state.new (bundle a.new b.new probe.new) out.new ≡ asks call state.old (bundle a.old b.old probe.old) out.old }
 {
-    let started = state.started;
-    if !started {
-        return Outcome {
-            answer: Answer::Refused(Why::NoStart),
-            state,
-        };
-    }
-    let session = state.session;
-    go_on(perform(session, call, a, b, probe, out))
+    let Some(session) = *state else {
+        return Answer::Refused(Why::NoStart);
+    };
+    let reply = perform(session, call, a, b, probe, out);
+    *state = Some(reply.session);
+    reply.answer
 }
 
 // The same of a call that is lent the first words of the output.
+#[tactic(auto, unfolding(crate::specs::Answering::asks_in))]
 fn ask_in(
-    state: State,
+    state: &mut Option<Session>,
     call: Call,
     words: usize,
     a: &mut [u32],
     b: &mut [u32],
     probe: &mut [u32],
     out: &mut [u32],
-) -> Outcome
+) -> Answer
     requires { words ≤ length out.old }
-    ensures { turned result (bundle a.new b.new probe.new) out.new ≡ asks_in words call state (bundle a.old b.old probe.old) out.old }
+    ensures { turned result state.new (bundle a.new b.new probe.new) out.new ≡ asks_in words call state.old (bundle a.old b.old probe.old) out.old }
 {
     ask(state, call, a, b, probe, &mut out[..words])
 }
 
-// What a line is told. It lists no more than the output has room for pairs.
+// What a line is told.
 fn respond(
-    state: State,
+    state: &mut Option<Session>,
     line: &[u8],
     a: &mut [u32],
     b: &mut [u32],
     probe: &mut [u32],
     out: &mut [u32; OUTPUT],
-) -> Outcome
-    ensures { (turned result (bundle a.new b.new probe.new) out.new ≡ turn_of (read_line line.now) state (bundle a.old b.old probe.old) out.old) × (written_of result.answer ≤ room_most) }
+) -> Answer
+    ensures { turned result state.new (bundle a.new b.new probe.new) out.new ≡ turn_of (read_line line.now) state.old (bundle a.old b.old probe.old) out.old }
 {
-    match read_line(line) {
+    let Some(asked) = read_line(line) else {
+        return Answer::Refused(Why::BadLine);
+    };
+    match asked {
         Line::Start(parts, slots, limit) => begin(state, open(parts, slots, limit, a, b, probe)),
         Line::Ask(call) => ask(state, call, a, b, probe, out),
-        Line::Drain(room) => ask_in(state, Call::Drain, pairs_need(room), a, b, probe, out),
+        Line::Drain(room) => ask_in(state, Call::Drain, words_of::<PAIR>(room), a, b, probe, out),
         Line::Lone(source, room) => {
-            ask_in(
-                state,
-                Call::Lone(source),
-                singles_need(room),
-                a,
-                b,
-                probe,
-                out,
-            )
+            let words = words_of::<SINGLE>(room);
+            ask_in(state, Call::Lone(source), words, a, b, probe, out)
         }
-        Line::Bad => Outcome {
-            answer: Answer::Refused(Why::BadLine),
-            state,
-        },
     }
 }
 
-// Does what a line asks for, and puts its reply at the start of the buffer.
+// Does what a line asks for, and leaves its reply alone in the text.
 pub fn answer_line(
-    state: State,
+    state: &mut Option<Session>,
     line: &[u8],
     a: &mut [u32],
     b: &mut [u32],
     probe: &mut [u32],
     out: &mut [u32; OUTPUT],
-    reply: &mut [u8; REPLY],
-) -> Answered
-    ensures { Says (answered line.now state (bundle a.old b.old probe.old) out.old) reply.old result.state result.bytes (bundle a.new b.new probe.new) out.new reply.new }
+    reply: &mut ArrayVec<u8, REPLY>,
+)
+    ensures { left state.new (bundle a.new b.new probe.new) out.new reply.new.items ≡ answered line.now state.old (bundle a.old b.old probe.old) out.old }
 {
-    let outcome = respond(state, line, a, b, probe, out);
-    let answer = outcome.answer;
-    let bytes = put_reply(reply, out, answer);
-    let next = outcome.state;
-    Answered { state: next, bytes }
+    let answer = respond(state, line, a, b, probe, out);
+    reply.clear();
+    put_reply(reply, out, answer);
 }

@@ -1,239 +1,238 @@
 // A case: what its numbers ask for, and the answer to it. In their order the numbers are the kind of the call and its four
 // arguments; the record, as P, M, N, clock, rows of A and of B, closed A and B, 32 entry counts, position, lone positions
 // of A and B; the lengths of the sheets A, B, probe and output; and then the words of these sheets.
-ghost use Rattle.std.specs.Prelude.{◌≡◌, ◌+◌, ◌≤◌, length};
-ghost use Rattle.caller.specs.Cases.{case_head, sheet_most};
+ghost use Rattle.std.specs.Prelude.{◌≡◌, ◌+◌, ◌≤◌, ◌↔◌, [], ◌∷◌, ◌++◌, take, drop, length, IsSome, IfSome, OnOk};
+ghost use Rattle.std.specs.Int.{from_bool};
+ghost use Rattle.std.specs.Io.KnownBytes.{Appends};
+ghost use Rattle.rules.specs.World.{bundle};
+ghost use Rattle.rules.specs.Calls.{leaves};
+ghost use Rattle.printout.specs.Printed.{session_numbers};
+ghost use Rattle.caller.specs.Cases.{number_of, AsksFor, Asks, left_by, text_of};
 
 use calls::opening::open;
 use calls::performing::perform;
-use printout::{print_bad, print_line, print_reply};
-use rules::{Call, Feed, Places, Reply, Session};
-use stamps::{Message, Source};
+use printout::{print_line, print_reply};
+use rules::{Call, Feed, Reply, Session};
+use stamps::{Message, PerSource, Source};
 use std::io;
 use std::io::Write;
 
-// Places among the numbers: the record and its parts, the sizes of the sheets, and the sheets themselves.
-const RECORD: usize = 5;
+// How many numbers ask for the call, are its record, and are the lengths of the sheets.
+const ASKED: usize = 5;
 
-const ROWS: usize = RECORD + 4;
+const RECORD: usize = 43;
 
-const CLOSED: usize = ROWS + 2;
+const LENGTHS: usize = 4;
 
-const COUNTS: usize = CLOSED + 2;
-
-const POSITION: usize = COUNTS + 32;
-
-const LONE: usize = POSITION + 1;
-
-const SIZES: usize = LONE + 2;
-
-const SHEETS: usize = SIZES + 4;
-
-// The most words of a sheet, and of the smaller ones.
-const SHEET: usize = 12288;
+// The most words of a sheet of rows, of probe lists, and of an output.
+const SHEET_WORDS: usize = 12288;
 
 const PROBE_WORDS: usize = 2048;
 
 const OUTPUT_WORDS: usize = 1536;
 
 // The most numbers of a case.
-pub const LINE_WORDS: usize = SHEETS + SHEET + SHEET + PROBE_WORDS + OUTPUT_WORDS;
+pub const LINE_WORDS: usize = ASKED
+    + RECORD
+    + LENGTHS
+    + SHEET_WORDS
+    + SHEET_WORDS
+    + PROBE_WORDS
+    + OUTPUT_WORDS;
 
 // ---- the numbers before the sheets
 
-fn head_of(words: &[u32]) -> [u32; SHEETS]
-    requires { case_head ≤ length words.now }
+// The flag of a number: 0 or 1.
+fn flag_of(word: u32) -> Option<bool>
+    ensures known { IsSome result ↔ (word ≤ 1) }
+    ensures value { IfSome result (λ flag. from_bool flag ≡ word) }
 {
-    let mut head = [0; SHEETS];
-    let mut i = 0;
-    while i < SHEETS {
-        head[i] = words[i];
-        i += 1;
-    }
-    head
-}
-
-// Whether the kind is one, with a source where it has one, and the flags are flags.
-fn is_good(head: [u32; SHEETS]) -> bool {
-    let kind = head[0];
-    let sourceless = (kind == 0) | (kind == 5);
-    let sourced = (kind <= 6) & (head[1] <= 1);
-    (sourceless | sourced) & (head[CLOSED] <= 1) & (head[CLOSED + 1] <= 1)
-}
-
-fn source_of(word: u32) -> Source {
-    if word == 0 {
-        return Source::A;
-    }
-    Source::B
-}
-
-// The call of a kind other than 0, which is an opening.
-fn call_of(head: [u32; SHEETS]) -> Call {
-    let kind = head[0];
-    let source = source_of(head[1]);
-    let second = head[2];
-    match kind {
-        1 => Call::Arrive(
-            source,
-            Message {
-                heat: second,
-                car: head[3],
-                lap: head[4],
-            },
-        ),
-        2 => Call::Evict(source, second),
-        3 => Call::Run(source, second),
-        4 => Call::Close(source),
-        5 => Call::Drain,
-        _ => Call::Lone(source),
+    match word {
+        0 => Some(false),
+        1 => Some(true),
+        _ => None,
     }
 }
 
-fn counts_of(head: [u32; SHEETS]) -> [u32; 32] {
-    let mut counts = [0; 32];
-    let mut i = 0;
-    while i < 32 {
-        counts[i] = head[COUNTS + i];
-        i += 1;
+// The source of a number: 0 for A, 1 for B.
+fn source_of(word: u32) -> Option<Source>
+    ensures known { IsSome result ↔ (word ≤ 1) }
+    ensures value { IfSome result (λ source. number_of source ≡ word) }
+{
+    match word {
+        0 => Some(Source::A),
+        1 => Some(Source::B),
+        _ => None,
     }
-    counts
 }
 
-fn session_of(head: [u32; SHEETS]) -> Session {
-    let a = Feed {
-        rows: head[ROWS],
-        closed: head[CLOSED] == 1,
+// The session record of these numbers, which printing it would give.
+fn session_of(numbers: &[u32]) -> Option<Session>
+    ensures { IfSome result (λ session. session_numbers session ≡ numbers.now) }
+{
+    let &[
+        parts,
+        slots,
+        limit,
+        clock,
+        rows_a,
+        rows_b,
+        closed_a,
+        closed_b,
+        ref counts @ ..,
+        next,
+        lone_a,
+        lone_b,
+    ] = numbers
+    else {
+        return None;
     };
-    let b = Feed {
-        rows: head[ROWS + 1],
-        closed: head[CLOSED + 1] == 1,
+    let feeds = PerSource {
+        a: Feed {
+            rows: rows_a,
+            closed: flag_of(closed_a)?,
+        },
+        b: Feed {
+            rows: rows_b,
+            closed: flag_of(closed_b)?,
+        },
     };
-    let counts = counts_of(head);
-    let lone = Places {
-        a: head[LONE],
-        b: head[LONE + 1],
-    };
-    Session {
-        parts: head[RECORD],
-        slots: head[RECORD + 1],
-        limit: head[RECORD + 2],
-        clock: head[RECORD + 3],
-        a,
-        b,
-        counts,
-        next: head[POSITION],
-        lone,
+    Some(Session {
+        parts,
+        slots,
+        limit,
+        clock,
+        feeds,
+        counts: *counts.as_array()?,
+        next,
+        lone: PerSource {
+            a: lone_a,
+            b: lone_b,
+        },
+    })
+}
+
+// The call that these numbers ask for: its kind, and as many arguments as it has; the others may be any. Kind 0 is an opening.
+fn call_of(asked: &[u32; ASKED]) -> Option<Call>
+    ensures { IfSome result (AsksFor asked.now) }
+{
+    match *asked {
+        [1, source, heat, car, lap] => {
+            Some(Call::Arrive(source_of(source)?, Message { heat, car, lap }))
+        }
+        [2, source, part, ..] => Some(Call::Evict(source_of(source)?, part)),
+        [3, source, part, ..] => Some(Call::Run(source_of(source)?, part)),
+        [4, source, ..] => Some(Call::Close(source_of(source)?)),
+        [5, ..] => Some(Call::Drain),
+        [6, source, ..] => Some(Call::Lone(source_of(source)?)),
+        _ => None,
     }
+}
+
+// What a case asks for: an opening with P, M and N, or a call on a record.
+#[derive(Clone, Copy)]
+enum Request {
+    Open(u32, u32, u32),
+    Perform(Session, Call),
+}
+
+impl Request {
+    // Performs the call, or the opening, on these sheets.
+    fn perform(self, a: &mut [u32], b: &mut [u32], probe: &mut [u32], out: &mut [u32]) -> Reply
+        ensures { leaves result (bundle a.new b.new probe.new) out.new ≡
+            left_by self (bundle a.old b.old probe.old) out.old }
+    {
+        match self {
+            Request::Open(parts, slots, limit) => open(parts, slots, limit, a, b, probe),
+            Request::Perform(session, call) => perform(session, call, a, b, probe, out),
+        }
+    }
+}
+
+// What these numbers and those of a record ask for. An opening's record is read too: one that is none makes the case BAD.
+fn request_of(asked: &[u32; ASKED], numbers: &[u32]) -> Option<Request>
+    ensures { IfSome result (Asks asked.now numbers.now) }
+{
+    let session = session_of(numbers)?;
+    if let [0, parts, slots, limit, _] = *asked {
+        return Some(Request::Open(parts, slots, limit));
+    }
+    Some(Request::Perform(session, call_of(asked)?))
 }
 
 // ---- the sheets
 
-// The call that the numbers before the sheets describe.
-fn perform_case(
-    head: [u32; SHEETS],
-    a: &mut [u32],
-    b: &mut [u32],
-    probe: &mut [u32],
-    out: &mut [u32],
-) -> Reply {
-    if head[0] == 0 {
-        return open(head[1], head[2], head[3], a, b, probe);
-    }
-    perform(session_of(head), call_of(head), a, b, probe, out)
-}
-
-// Performs the call and prints what it leaves.
-fn answer_call(
-    to: &mut impl Write,
-    head: [u32; SHEETS],
-    a: &mut [u32],
-    b: &mut [u32],
-    probe: &mut [u32],
-    out: &mut [u32],
-) -> io::Result<()> {
-    let reply = perform_case(head, a, b, probe, out);
-    print_reply(to, reply)?;
-    print_line(to, b"A", a)?;
-    print_line(to, b"B", b)?;
-    print_line(to, b"PROBE", probe)?;
-    print_line(to, b"OUT", out)
-}
-
-// A sheet with the numbers from a place on.
-fn sheet_of(words: &[u32], from: usize, size: usize) -> [u32; SHEET]
-    requires { (from + size ≤ length words.now) × (size ≤ sheet_most) }
+// The sheet of this size that the words begin with, and the words behind it, if it is not too large.
+fn sheet_of(words: &mut [u32], size: u32, most: usize) -> Option<(&mut [u32], &mut [u32])>
+    ensures fits { IsSome result ↔ ((size ≤ most) × (size ≤ length words.old)) }
+    ensures whole { IfSome result (λ parts. words.old ≡ parts.0.now ++ parts.1.now) }
+    ensures size { IfSome result (λ parts. length parts.0.now ≡ size) }
 {
-    let mut sheet = [0; SHEET];
-    let mut i = 0;
-    while i < size {
-        sheet[i] = words[from + i];
-        i += 1;
+    let size = size as usize;
+    if most < size {
+        return None;
     }
-    sheet
+    words.split_at_mut_checked(size)
 }
 
-// Answers a case whose sheets have these sizes.
-fn answer_sheets(
-    to: &mut impl Write,
-    head: [u32; SHEETS],
-    words: &[u32],
-    first: usize,
-    second: usize,
-    lists: usize,
-    room: usize,
-) -> io::Result<()>
-    requires { (case_head + first + second + lists + room ≡ length words.now) × (first ≤ sheet_most) × (second ≤ sheet_most) × (lists ≤ sheet_most) × (room ≤ sheet_most) }
-{
-    let b_at = SHEETS + first;
-    let probe_at = b_at + second;
-    let out_at = probe_at + lists;
-    let mut a = sheet_of(words, SHEETS, first);
-    let mut b = sheet_of(words, b_at, second);
-    let mut probe = sheet_of(words, probe_at, lists);
-    let mut out = sheet_of(words, out_at, room);
-    answer_call(
-        to,
-        head,
-        &mut a[..first],
-        &mut b[..second],
-        &mut probe[..lists],
-        &mut out[..room],
-    )
+// A request with the sheets that it is performed on, which are parts of the line's numbers.
+#[derive(Drop)]
+pub struct Case<'w> {
+    request: Request,
+    a: &'w mut [u32],
+    b: &'w mut [u32],
+    probe: &'w mut [u32],
+    out: &'w mut [u32],
 }
 
-// A number as the size of a sheet.
-fn size_of(word: u32) -> usize {
-    word as usize
-}
+impl<'w> Case<'w> {
+    // The case of these numbers, if they are one: no sheet is too large, and no number is missing or left over.
+    pub fn of(numbers: &'w mut [u32]) -> Option<Case<'w>>
+        ensures asks { IfSome result (λ case.
+            Asks (take ASKED numbers.old) (take RECORD (drop ASKED numbers.old)) case.request) }
+        ensures sheets { IfSome result (λ case. drop (ASKED + RECORD + LENGTHS) numbers.old ≡
+            case.a.now ++ case.b.now ++ case.probe.now ++ case.out.now) }
+        ensures lengths { IfSome result (λ case. take LENGTHS (drop (ASKED + RECORD) numbers.old) ≡
+            length case.a.now ∷ length case.b.now ∷ length case.probe.now ∷ length case.out.now ∷ []) }
+    {
+        let (asked, rest) = numbers.split_first_chunk_mut::<ASKED>()?;
+        let (record, rest) = rest.split_at_mut_checked(RECORD)?;
+        let (lengths, rest) = rest.split_first_chunk_mut::<LENGTHS>()?;
+        let [length_a, length_b, length_probe, length_out] = *lengths;
+        let (a, rest) = sheet_of(rest, length_a, SHEET_WORDS)?;
+        let (b, rest) = sheet_of(rest, length_b, SHEET_WORDS)?;
+        let (probe, rest) = sheet_of(rest, length_probe, PROBE_WORDS)?;
+        let (out, rest) = sheet_of(rest, length_out, OUTPUT_WORDS)?;
+        if !rest.is_empty() {
+            return None;
+        }
+        let request = request_of(asked, record)?;
+        Some(Case {
+            request,
+            a,
+            b,
+            probe,
+            out,
+        })
+    }
 
-// Answers the case of these numbers, if they are one: no sheet is too large, and no number is missing or left over.
-pub fn answer_case(to: &mut impl Write, words: &[u32]) -> io::Result<()> {
-    if words.len() < SHEETS {
-        return print_bad(to);
+    // Performs the request and prints what it leaves.
+    pub fn answer<W: Write>(self, to: &mut W) -> io::Result<()>
+        ensures { OnOk result (Appends (W.contents to.old) (W.contents to.new)
+            (text_of (left_by self.entry.request (bundle self.entry.a.now self.entry.b.now self.entry.probe.now) self.entry.out.now))) }
+    {
+        let Case {
+            request,
+            a,
+            b,
+            probe,
+            out,
+        } = self;
+        let reply = request.perform(a, b, probe, out);
+        print_reply(to, reply)?;
+        print_line(to, b"A", a)?;
+        print_line(to, b"B", b)?;
+        print_line(to, b"PROBE", probe)?;
+        print_line(to, b"OUT", out)
     }
-    let head = head_of(words);
-    if !is_good(head) {
-        return print_bad(to);
-    }
-    let a = size_of(head[SIZES]);
-    let b = size_of(head[SIZES + 1]);
-    let probe = size_of(head[SIZES + 2]);
-    let out = size_of(head[SIZES + 3]);
-    if SHEET < a {
-        return print_bad(to);
-    }
-    if SHEET < b {
-        return print_bad(to);
-    }
-    if PROBE_WORDS < probe {
-        return print_bad(to);
-    }
-    if OUTPUT_WORDS < out {
-        return print_bad(to);
-    }
-    if words.len() != SHEETS + a + b + probe + out {
-        return print_bad(to);
-    }
-    answer_sheets(to, head, words, a, b, probe, out)
 }

@@ -3,46 +3,46 @@
 // be tried. A line that is no case is answered by BAD. A line ends at LF or at the end of the input, an empty rest giving none.
 #![tactic(auto)]
 
-use crate::cases::{LINE_WORDS, answer_case};
-use crate::numbers::{Line, end_number, new_line, numbers_of, take_byte};
+use crate::cases::Case;
+use crate::numbers::Line;
+use printout::print_bad;
 use std::io;
 use std::io::{Read, Write};
 
 mod cases;
 mod numbers;
 
-// Answers a line that has ended.
-fn answer_line(to: &mut impl Write, line: Line, words: &mut [u32; LINE_WORDS]) -> io::Result<()> {
-    let whole = end_number(words, line);
-    answer_case(to, numbers_of(words, whole))
+// The case of a line, which ends here, if it is one.
+fn case_of(line: &mut Line) -> Option<Case<'_>> {
+    Case::of(line.end()?)
+}
+
+// Answers the line, which ends here, and begins the next one.
+fn answer_line(to: &mut impl Write, line: &mut Line) -> io::Result<()> {
+    match case_of(line) {
+        Some(case) => case.answer(to)?,
+        None => print_bad(to)?,
+    }
+    line.clear();
+    Ok(())
 }
 
 // Answers each line that ends in the chunk, and keeps the rest: the line that is begun after it.
-fn feed(
-    to: &mut impl Write,
-    begun: Line,
-    chunk: &[u8],
-    words: &mut [u32; LINE_WORDS],
-) -> io::Result<Line> {
-    let mut line = begun;
-    let mut i = 0;
-    while i < chunk.len() {
-        let byte = chunk[i];
-        i += 1;
+fn feed(to: &mut impl Write, line: &mut Line, chunk: &[u8]) -> io::Result<()> {
+    for &byte in chunk {
         if byte == b'\n' {
-            answer_line(to, line, words)?;
-            line = new_line();
+            answer_line(to, line)?;
         } else {
-            line = take_byte(words, line, byte);
+            line.take_byte(byte);
         }
     }
-    Ok(line)
+    Ok(())
 }
 
 // The end of the input: a rest without LF is a line too, and an empty rest is none.
-fn finish(to: &mut impl Write, line: Line, words: &mut [u32; LINE_WORDS]) -> io::Result<()> {
-    if line.begun {
-        answer_line(to, line, words)?;
+fn finish(to: &mut impl Write, line: &mut Line) -> io::Result<()> {
+    if !line.is_empty() {
+        answer_line(to, line)?;
     }
     Ok(())
 }
@@ -52,15 +52,14 @@ fn finish(to: &mut impl Write, line: Line, words: &mut [u32; LINE_WORDS]) -> io:
 fn main(rt: HostRuntime) -> io::Result<()> {
     let mut from = rt.stdin();
     let mut to = rt.stdout();
-    let mut words = [0u32; LINE_WORDS];
+    let mut line = Line::new();
     let mut chunk = [0u8; 4096];
-    let mut line = new_line();
     for _ in 0..u64::MAX {
         let count = from.read(&mut chunk)?;
         if count == 0 {
-            return finish(&mut to, line, &mut words);
+            return finish(&mut to, &mut line);
         }
-        line = feed(&mut to, line, &chunk[..count], &mut words)?;
+        feed(&mut to, &mut line, &chunk[..count])?;
     }
     Ok(())
 }

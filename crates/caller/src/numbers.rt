@@ -1,110 +1,112 @@
 // The numbers of a line, taken byte by byte: decimal digits, 32 bits at most; blanks part them.
+ghost use Rattle.std.specs.Prelude.{◌≡◌, ◌+◌, ◌*◌, ◌^◌, ◌<◌, ◌↔◌, [], IsTrue, IsSome, IsNone, IfSome};
+ghost use Rattle.caller.specs.Numbers.{value_of};
+
 use crate::cases::LINE_WORDS;
+use arrayvec::ArrayVec;
 
-const MOST_WORD: u64 = 4294967295;
-
-// How many numbers are whole, whether one is begun and its value so far, and whether the line has any byte and can still be
-// read.
+// Where a line stands that can be read so far: no byte has come, the last one parted numbers, or a number is begun and has this
+// value so far.
 #[derive(Clone, Copy)]
+enum Place {
+    Start,
+    Between,
+    Number(u32),
+}
+
+impl Place {
+    // The value so far of the number that is begun, 0 where none is.
+    fn value(self) -> u32
+        ensures { result ≡ value_of self }
+    {
+        match self {
+            Place::Number(value) => value,
+            Place::Start | Place::Between => 0,
+        }
+    }
+
+    // The place behind one digit more, where the number still has 32 bits.
+    fn with_digit(self, digit: u8) -> Option<Place>
+        ensures fits { IsSome result ↔ (10 * value_of self + digit < 2 ^ 32) }
+        ensures value { IfSome result (λ place. place ≡ Place.Number (10 * value_of self + digit)) }
+    {
+        let value = self.value().checked_mul(10)?.checked_add(digit as u32)?;
+        Some(Place::Number(value))
+    }
+}
+
+// A line that is begun: its numbers that have ended, and where it stands. One that cannot be read stands nowhere, and its
+// other bytes are passed over.
+#[derive(Drop)]
 pub struct Line {
-    pub count: usize,
-    pub inside: bool,
-    pub value: u64,
-    pub begun: bool,
-    pub good: bool,
+    numbers: ArrayVec<u32, LINE_WORDS>,
+    place: Option<Place>,
 }
 
-pub fn new_line() -> Line {
-    Line {
-        count: 0,
-        inside: false,
-        value: 0,
-        begun: false,
-        good: true,
+impl Line {
+    // A line with no byte.
+    pub fn new() -> Line
+        ensures numbers { result.numbers.items ≡ [] }
+        ensures place { result.place ≡ Some Place.Start }
+    {
+        Line {
+            numbers: ArrayVec::new(),
+            place: Some(Place::Start),
+        }
     }
-}
 
-// A line that cannot be read: it has no numbers, and its other bytes are passed over.
-fn bad_line() -> Line {
-    Line {
-        count: 0,
-        inside: false,
-        value: 0,
-        begun: true,
-        good: false,
+    // Whether no byte has come.
+    pub fn is_empty(&self) -> bool
+        ensures { IsTrue result ↔ (self.now.place ≡ Some Place.Start) }
+    {
+        matches!(self.place, Some(Place::Start))
     }
-}
 
-fn is_blank(byte: u8) -> bool {
-    (byte == b' ') | (byte == b'\t')
-}
+    // Takes one byte more, which is no LF.
+    pub fn take_byte(&mut self, byte: u8)
+        ensures passed_over { self.old.place ≡ None → self.new.place ≡ None }
+        ensures begun { ¬ (self.new.place ≡ Some Place.Start) }
+    {
+        self.place = self.place_after(byte);
+    }
 
-// The line with one digit more.
-fn with_digit(line: Line, digit: u8) -> Line {
-    let value = line.value;
-    if MOST_WORD < value {
-        return bad_line();
+    // Where the line stands behind one byte more.
+    fn place_after(&mut self, byte: u8) -> Option<Place>
+        ensures passed_over { self.old.place ≡ None → result ≡ None }
+        ensures begun { ¬ (result ≡ Some Place.Start) }
+    {
+        match byte {
+            b' ' | b'\t' => self.end_number(),
+            b'0'..=b'9' => self.place?.with_digit(byte - b'0'),
+            _ => None,
+        }
     }
-    Line {
-        count: line.count,
-        inside: true,
-        value: 10 * value + digit as u64,
-        begun: true,
-        good: true,
-    }
-}
 
-// Keeps the number that is begun, if there is one.
-pub fn end_number(words: &mut [u32; LINE_WORDS], line: Line) -> Line {
-    let count = line.count;
-    let value = line.value;
-    if !line.inside {
-        return Line {
-            count,
-            inside: false,
-            value,
-            begun: true,
-            good: line.good,
-        };
+    // Keeps the number that is begun, if there is one and it fits: where the line stands then.
+    fn end_number(&mut self) -> Option<Place>
+        ensures passed_over { self.old.place ≡ None → result ≡ None }
+        ensures begun { ¬ (result ≡ Some Place.Start) }
+    {
+        if let Place::Number(number) = self.place? {
+            self.numbers.try_push(number).ok()?;
+        }
+        Some(Place::Between)
     }
-    if MOST_WORD < value {
-        return bad_line();
-    }
-    if LINE_WORDS <= count {
-        return bad_line();
-    }
-    words[count] = value as u32;
-    Line {
-        count: count + 1,
-        inside: false,
-        value: 0,
-        begun: true,
-        good: true,
-    }
-}
 
-// The line with one byte more, which is no LF.
-pub fn take_byte(words: &mut [u32; LINE_WORDS], line: Line, byte: u8) -> Line {
-    if !line.good {
-        return line;
+    // The numbers of the line, which ends here; none if it cannot be read.
+    pub fn end(&mut self) -> Option<&mut [u32]>
+        ensures { self.old.place ≡ None → IsNone result }
+    {
+        self.end_number()?;
+        Some(self.numbers.as_mut_slice())
     }
-    if is_blank(byte) {
-        return end_number(words, line);
-    }
-    if byte < b'0' {
-        return bad_line();
-    }
-    if b'9' < byte {
-        return bad_line();
-    }
-    with_digit(line, byte - b'0')
-}
 
-// The numbers of a line that has ended. No promise ties the line to these words, so its count is tested.
-pub fn numbers_of(words: &[u32], line: Line) -> &[u32] {
-    let count = line.count;
-    if count < words.len() {
-        return &words[..count];
+    // Begins the next line.
+    pub fn clear(&mut self)
+        ensures numbers { self.new.numbers.items ≡ [] }
+        ensures place { self.new.place ≡ Some Place.Start }
+    {
+        self.numbers.clear();
+        self.place = Some(Place::Start);
     }
-    words
 }

@@ -1,4 +1,4 @@
-// The calls of the box: a session record by value, bundle sheets, and an answer for every call.
+// The calls of the box: a session record by value, lent sheets, and an answer for every call.
 #![tactic(auto)]
 
 pub mod closing;

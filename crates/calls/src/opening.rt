@@ -4,13 +4,14 @@ ghost use Rattle.rules.specs.Calls.{fresh, opens};
 ghost use Rattle.rules.specs.World.{bundle};
 
 use checks::refusals::sizes_fit;
-use rules::{Answer, Feed, Places, Reply, Session, Why};
+use rules::{Answer, Feed, Reply, Session, Why};
+use stamps::PerSource;
 
 // A record with nothing in it yet.
 pub fn new_session(parts: u32, slots: u32, limit: u32) -> Session
     ensures { result ≡ fresh parts slots limit }
 {
-    let none = Feed {
+    let feed = Feed {
         rows: 0,
         closed: false,
     };
@@ -19,28 +20,26 @@ pub fn new_session(parts: u32, slots: u32, limit: u32) -> Session
         slots,
         limit,
         clock: 0,
-        a: none,
-        b: none,
+        feeds: PerSource { a: feed, b: feed },
         counts: [0; 32],
         next: 0,
-        lone: Places { a: 0, b: 0 },
+        lone: PerSource { a: 0, b: 0 },
     }
 }
 
 // Opens a session on sheets of any content. A refused opening hands back a record of zeros.
+#[tactic(auto, unfolding(rules::specs::Calls::opens))]
 pub fn open(parts: u32, slots: u32, limit: u32, a: &[u32], b: &[u32], probe: &[u32]) -> Reply
     ensures { result ≡ opens parts slots limit (bundle a.now b.now probe.now) }
 {
-    if sizes_fit(parts, slots, limit, a, b, probe) {
-        let session = new_session(parts, slots, limit);
+    if !sizes_fit(parts, slots, limit, a, b, probe) {
         return Reply {
-            answer: Answer::Opened,
-            session,
+            answer: Answer::Refused(Why::BadSheet),
+            session: new_session(0, 0, 0),
         };
     }
-    let session = new_session(0, 0, 0);
     Reply {
-        answer: Answer::Refused(Why::BadSheet),
-        session,
+        answer: Answer::Opened,
+        session: new_session(parts, slots, limit),
     }
 }

@@ -1,5 +1,5 @@
-// What a call tests before it does anything, and the parts of the record that each source has.
+// What a call tests before it does anything, and how it is answered where a test fails.
 #![tactic(auto)]
 
-pub mod feeds;
+pub mod jobs;
 pub mod refusals;

@@ -1,16 +1,17 @@
--- What the layers above may know of lines: their promise allows one result. Assumes nothing.
-use mathlib.Core.Path.{◌≡◌, sym, ◌∙◌}
-use mathlib.Core.List.{List}
-use Prim.Native.Nat.{ℕ}
-use Rattle.text.specs.Gathering.{Held}
+-- A promise allows one result.
+use Rattle.std.proofs.Common.{◌≡◌, sym, ◌∙◌, ℕ, List}
+use Rattle.std.specs.Borrow.{Bor}
+use Rattle.std.specs.Option.{option_map}
+use Rattle.std.specs.Prelude.{Option}
+use Rattle.text.specs.Gathering.{Held, Took}
+use Rattle.text.proofs.Laws.{took_one_result}
 use Rattle.rules.specs.World.{Sheets}
-use Rattle.answering.specs.declared.State.{State}
+use Rattle.rules.specs.declared.Session.{Session}
+use Rattle.answering.specs.Answering.{Left, left}
 use Rattle.answering.proofs.Laws.{says_one_result}
-use Rattle.lines.specs.Serving.{Serves}
-use Rattle.lines.specs.declared.serving.Served.{Served}
+use Rattle.lines.specs.Serving.{begun_after}
 
-pub serves_one_result : {g : Held} {t : State} {z z₁ z₂ : Sheets} {o d : List ℕ} {r r' : Served} {l l' o₁ o₂ e₁ e₂ : List ℕ}
-    → Serves g t z o d r l z₁ o₁ e₁ → Serves g t z o d r' l' z₂ o₂ e₂
-    → (r ≡ r') × (l ≡ l') × (z₁ ≡ z₂) × (o₁ ≡ o₂) × (e₁ ≡ e₂)
-serves_one_result x y = let (t, n, z, o, e) = says_one_result x.says y.says in
-    (λ i. record { state = t i; have = (x.have ∙ sym y.have) i; next = (x.next ∙ sym y.next) i; bytes = n i }, x.line ∙ sym y.line, z, o, e)
+pub serves_one_result : (h : Held) (r r' : Option (Bor (List ℕ))) {x : Left} {t t' : Option Session} {z z' : Sheets} {o o' e e' l l' : List ℕ}
+    → left t z o e ≡ x → l ≡ begun_after h → Took h r → left t' z' o' e' ≡ x → l' ≡ begun_after h → Took h r'
+    → (t ≡ t') × (z ≡ z') × (o ≡ o') × (e ≡ e') × (l ≡ l') × (option_map (λ rest. rest.now) r ≡ option_map (λ rest. rest.now) r')
+serves_one_result h r r' p a u q b v = let (t, z, o, e) = says_one_result p q in (t, z, o, e, a ∙ sym b, took_one_result h r r' u v)

@@ -1,25 +1,22 @@
 -- What a look at the input leaves: its next line gathered, and answered where it ended.
-use Rattle.std.specs.Prelude.{◌≡◌, cond, List, [], ◌∷◌, ◌++◌, ℕ, eqb, take}
+use Rattle.std.specs.Prelude.{List, [], ◌∷◌, ◌++◌, ℕ, Option, Some, None}
 use Rattle.text.specs.Gathering.{Held}
 use Rattle.rules.specs.World.{Sheets}
-use Rattle.answering.specs.Answering.{Left, left, answered, silent, Says}
-use Rattle.answering.specs.declared.State.{State}
-use Rattle.lines.specs.declared.serving.Served.{Served}
+use Rattle.rules.specs.declared.Session.{Session}
+use Rattle.answering.specs.Answering.{Left, left, answered, silent}
 
 -- "A line ends at LF": then it is answered
-abbrev pub served : Held → State → Sheets → List ℕ → Left
-served g t z o = cond g.how.ended (answered (take g.how.have g.line) t z o) (silent t z o)
+abbrev pub served : Held → Option Session → Sheets → List ℕ → Left
+served h t z o = elim h.rest [ Some rest ↦ answered h.line t z o | None ↦ silent t z o ]
+
+-- and the next one begins
+abbrev pub begun_after : Held → List ℕ
+begun_after h = elim h.rest [ Some rest ↦ [] | None ↦ h.line ]
 
 -- "or at the end of input, an empty rest giving no line"
-abbrev pub finished : List ℕ → ℕ → State → Sheets → List ℕ → Left
-finished l have t z o = cond (eqb have 0) (silent t z o) (answered (take have l) t z o)
-
--- g is what a look at the input makes of the line that is begun: its answer where it ended, the place after it, and its buffer
-pub record Serves (g : Held) (t : State) (z : Sheets) (o d : List ℕ) (r : Served) (l : List ℕ) (z' : Sheets) (o' e : List ℕ) : Type 0 where
-  pub says : Says (served g t z o) d r.state r.bytes z' o' e
-  pub have : r.have ≡ cond g.how.ended 0 g.how.have
-  pub next : r.next ≡ g.how.next
-  pub line : l ≡ g.line
+abbrev pub finished : List ℕ → Option Session → Sheets → List ℕ → Left
+finished [] t z o = silent t z o
+finished (x ∷ l) t z o = answered (x ∷ l) t z o
 
 -- ---- a whole input
 

@@ -14,7 +14,8 @@ use Rattle.stamps.specs.declared.Item.{Item}
 use Rattle.stamps.specs.declared.Row.{Row}
 use Rattle.stamps.specs.declared.Entry.{Entry}
 use Rattle.stamps.specs.Counting.{bit, tally, up_to, span}
-use Rattle.stamps.proofs.CountingLaws.{tests, both, and_cong, tally_cong, tally_mono, le_top, top_le}
+use Rattle.std.proofs.lemmas.Bool.{and_parts}
+use Rattle.stamps.proofs.CountingLaws.{tests, and_cong, tally_cong, tally_mono, le_top, top_le}
 use Rattle.stamps.specs.Keys.{items_match, part_of}
 use Rattle.stamps.proofs.KeysLaws.{match_comm}
 use Rattle.stamps.specs.Stamps.{in_memory, stamp, done_before}
@@ -80,7 +81,7 @@ module _ (parts q c : ℕ) (d : Side) where
   flush_kept i = go (ltb i d.count) (hot parts q (d.row i)) refl
     where
       go : (u v : Bool) → hot parts q (d.row i) ≡ v → Kept c (d.row i) (cond u (cond v (stamp (c + (portion_rows parts q d.row i + bit v)) (d.row i)) (d.row i)) (d.row i))
-      go true true e = kept-stamp c _ (d.row i) (both (in_memory (d.row i)) (eqb (part_of parts (d.row i).item) q) e).0 (omega arith)
+      go true true e = kept-stamp c _ (d.row i) (and_parts (in_memory (d.row i)) (eqb (part_of parts (d.row i).item) q) e).0 (omega arith)
       go true false e = kept_refl c (d.row i)
       go false v e = kept_refl c (d.row i)
 
@@ -110,7 +111,7 @@ flush-out s t q c x ua ub =
     same_items = fun_ext λ i. (kept i).same_item
 
     same_done : pair_from s t x ≡ true → done t' (place s x) ≡ done t (place s x)
-    same_done h = let k = both (ltb (place s x).a t.a.count) (ltb (place s x).b t.b.count) (both (inside t (place s x)) (matches t (place s x) && shown_by s (items t.a) (items t.b) x) h).0 in
+    same_done h = let k = and_parts (ltb (place s x).a t.a.count) (ltb (place s x).b t.b.count) (and_parts (inside t (place s x)) (matches t (place s x) && shown_by s (items t.a) (items t.b) x) h).0 in
         ap (λ (m : Item). done_before (t.a.list (part_of t.parts m)) (t.b.list (part_of t.parts (row_b t (place s x)).item)) (t'.a.row (place s x).a) (row_b t (place s x))) (kept (place s x).a).same_item
         ∙ done-kept c _ _ (ua.lists _) (ub.lists _) (ua.rows (place s x).a (ltb-true _ _ k.0)).0 (ub.rows (place s x).b (ltb-true _ _ k.1)).0 (kept (place s x).a) (kept_refl c (row_b t (place s x)))
 
@@ -240,7 +241,7 @@ note-out s t q c x u = rw (times-wanted s (Portion q) t x) (go (inside t p) refl
         ≡ bit ((i && (matches t p && shown_by s (items t.a) (items t.b) x)) && done t p)
         + bit (shown_by s (items t.a) (items t.b) x) * (bit ((not (in_memory (row_a t p)) && v) && (matches t p && (in_memory (row_b t p) && not (done t p)))) * bit i)
     go false h v f = omega arith
-    go true h true f = let b = both (ltb p.a t.a.count) (ltb p.b t.b.count) h in let r = u.rows p.b (ltb-true _ _ b.1) in
+    go true h true f = let b = and_parts (ltb p.a t.a.count) (ltb p.b t.b.count) h in let r = u.rows p.b (ltb-true _ _ b.1) in
         rw (done_entry c e.last (t.a.list k) ey (row_a t p) (row_b t p) r.0 r.1, alive-now e.last (row_a t p) (dts_latest t.parts q t.a p.a (ltb-true _ _ b.0) f))
         (cases (matches t p) (shown_by s (items t.a) (items t.b) x) (done t p) (in_memory (row_a t p)) (in_memory (row_b t p)))
     go true h false f = rw (and-false (not (in_memory (row_a t p)))) (omega arith)

@@ -11,7 +11,8 @@ use lib.ListN.{take, drop}
 use borrow.Author.Tests.{lt-ltb, le-ltb}
 use Rattle.stamps.specs.declared.Source.TheVariants.{A}
 use Rattle.stamps.specs.Counting.{bit, keep, count}
-use Rattle.stamps.proofs.CountingLaws.{tests, both, keep-keep, count-keep, keep_cong}
+use Rattle.std.proofs.lemmas.Bool.{and_parts}
+use Rattle.stamps.proofs.CountingLaws.{tests, keep-keep, count-keep, keep_cong}
 use Rattle.sheets.specs.Layout.{Told, Pair}
 use Rattle.sheets.proofs.LayoutLaws.{shown_own}
 use Rattle.pairs.specs.Joins.{inside, numbers, is_pair, join, same, times, missing}
@@ -100,5 +101,5 @@ missing-owed t k l h = missing-left at same (tell_of A t) at_refl l out (keep (m
 
 -- no position lies beyond the last
 pub position-inside : (t : Table) (p : Pair) → inside t p ≡ true → position t p < t.a.count * t.b.count
-position-inside t p h = let b = both (ltb p.a t.a.count) (ltb p.b t.b.count) h in
+position-inside t p h = let b = and_parts (ltb p.a t.a.count) (ltb p.b t.b.count) h in
     let e : suc p.a * t.b.count ≤ t.a.count * t.b.count = mul-le-mul_right t.b.count (omega (arith, tests, b)) in omega (arith, tests, b, e, suc-mul p.a t.b.count)

@@ -1,17 +1,19 @@
 -- The turns of the loops that hand out a list: what is written, then what is left within the room, is the whole.
 -- Assumes nothing.
-use mathlib.Core.Path.{◌≡◌, refl, sym, ap, ◌∙◌}
-use mathlib.Core.Bool.{true, false}
-use mathlib.Core.List.{List, [], ◌∷◌, map}
+use mathlib.Core.Path.{◌≡◌, refl, ap, ◌∙◌}
+use mathlib.Core.List.{List, ◌∷◌, map}
 use Prim.Native.Nat.{ℕ, suc, ◌+◌, ◌-◌, ◌≤◌, ◌<◌}
 use native.Mathlib.Nat.{sub-zero}
 use native.Mathlib.Omega.{arith}
 use native.Mathlib.Numerals.{add-one}
-use lib.Dec.{ltb}
 use lib.ListN.{length, take}
-use lib.Seq.{take-nil, take_all, length-take-le}
-use borrow.Author.Tests.{lt-ltb, le-ltb}
-use Rattle.pairs.specs.Rooms.{past, put_all, HandsOut}
+use Rattle.std.specs.Prelude.{Some}
+use Rattle.std.specs.Iterator.{MakesProgress, item_count}
+use Rattle.pairs.specs.Rooms.{past, put_all}
+
+-- a walk that gave the first of what was left has less before it
+pub goes_on : {S A B : Type 0} (rest : S → List B) (s t : S) (r : A) (x : B) → rest s ≡ x ∷ rest t → MakesProgress (λ _. Unit) (item_count rest) s (Some r) t
+goes_on rest s t r x e = record { on = λ _. (tt, tt, rw e (omega arith)); keeps = tt; rests = λ _. tt }
 
 -- ---- handed out one by one: ys is what is left of all
 
@@ -32,14 +34,6 @@ module _ {Y : Type 0} (put : ℕ → Y → List ℕ → List ℕ) where
       long = ap length e ∙ same w y out ∙ h.long;
       rest = rw (add-one w, e) h.rest;
     }
-
-    pub handing_end : Handing put all [] o out w → (w ≡ length all) × (out ≡ put_all put 0 all o)
-    handing_end h = (omega (arith, h.sum), h.rest)
-
-    -- all are handed over once as many are
-    pub handing_all : (ys : List Y) → Handing put all ys o out w → length all ≤ w → out ≡ put_all put 0 all o
-    handing_all [] h b = (handing_end h).1
-    handing_all (y ∷ ys) h b = absurd (omega (arith, h.sum))
 
 -- ---- within a room
 
@@ -78,28 +72,3 @@ module _ {X Y : Type 0} (place : X → ℕ) (end : ℕ) (tell : X → Y) (put : 
         few = h.few;
         within = k;
       }
-
-      pub giving_full : room ≤ n → HandsOut place end tell put all from room o out (record { count = n; more = true; next = next })
-      giving_full b = let none : room - n ≡ 0 = omega arith in
-          let more : ltb room (length all) ≡ true = lt-ltb room (length all) (omega (arith, h.in_room, h.sum)) in
-          record {
-            count = rw (length-take-le room all (omega (arith, h.sum, h.in_room))) (omega (arith, h.in_room));
-            more = sym more;
-            next = rw more (rw none at h.ends);
-            out = (handing_end put _ o out n (rw none at h.hands)).1;
-            few = omega (arith, h.sum, h.few);
-            within = h.within;
-          }
-
-    pub giving_end : Giving place end tell put all [] from room o out n next → HandsOut place end tell put all from room o out (record { count = n; more = false; next = end })
-    giving_end h =
-        let whole : n ≡ length all = omega (arith, h.sum) in
-        let more : ltb room (length all) ≡ false = le-ltb room (length all) (omega (arith, h.in_room)) in
-        record {
-          count = rw (take_all room all (omega (arith, h.in_room))) whole;
-          more = sym more;
-          next = rw more;
-          out = (handing_end put _ o out n (rw take-nil at h.hands)).1;
-          few = omega (arith, h.sum, h.few);
-          within = omega arith;
-        }

@@ -1,11 +1,12 @@
 -- Rows without partner: which they are, and what is written of them.
 -- All is said for source A with B across from it. For B it is the same with the two in each other's place.
-use Rattle.std.specs.Prelude.{Bool, ◌&&◌, List, map, ℕ, ltb, eqb}
+use Rattle.std.specs.Prelude.{◌≡◌, Bool, ◌&&◌, List, [], ◌∷◌, map, Option, MatchOption, ℕ, ◌-◌, ◌<◌, ltb, eqb}
 use Rattle.stamps.specs.declared.Item.{Item}
 use Rattle.stamps.specs.Counting.{tally, span, keep, count, missing_in}
 use Rattle.stamps.specs.Keys.{items_match}
 use Rattle.sheets.specs.Layout.{row_at, Single, put_single}
 use Rattle.pairs.specs.Rooms.{on_from, HandsOut}
+use Rattle.pairs.specs.declared.lone_rows.LoneRows.{LoneRows}
 use Rattle.pairs.specs.declared.rooms.Written.{Written}
 
 -- ---- which they are
@@ -60,6 +61,19 @@ unfoldable pub unlisted : Items → List Single → List Single
 unlisted t l = missing_in same_single l (map (single t) (lones t))
 
 -- ---- what the functions promise
+
+-- as a walk's sheets hold them
+abbrev pub walked : LoneRows → Items
+walked l = items_in l.own.rows l.facing.rows l.own.words.now l.facing.words.now
+
+-- the rows without partner that a walk has not come to
+abbrev pub lones_left : LoneRows → List ℕ
+lones_left l = keep (is_lone (walked l)) (span l.from (l.own.rows - l.from))
+
+-- a walk's next step: to the first of these
+abbrev pub LoneStep : LoneRows → Option ℕ → LoneRows → Type 0
+LoneStep s r t = (walked t ≡ walked s)
+    × MatchOption r ((lones_left s ≡ []) × (lones_left t ≡ [])) (λ i. (lones_left s ≡ i ∷ lones_left t) × (i < s.own.rows))
 
 -- as many of the rows as there is room for are written; if none remains, the position becomes the row count
 abbrev pub Lists : Items → List ℕ → ℕ → ℕ → List ℕ → List ℕ → Written → Type 0

@@ -1,6 +1,6 @@
 -- Pairs of rows: which are written by an arrival, a run and a drain, and in what order.
 -- All is said for source A with B across from it. For B it is the same with the two in each other's place.
-use Rattle.std.specs.Prelude.{◌≡◌, Bool, true, false, not, ◌&&◌, List, [], ◌∷◌, ◌++◌, map, ℕ, zero, suc, ◌+◌, ◌*◌, ◌-◌, ◌≤◌, ◌<◌, length, get_or}
+use Rattle.std.specs.Prelude.{◌≡◌, Bool, true, false, not, ◌&&◌, List, [], ◌∷◌, ◌++◌, map, ℕ, zero, suc, ◌+◌, ◌*◌, ◌-◌, ◌≤◌, ◌<◌, Option, MatchOption}
 use Rattle.stamps.specs.declared.Source.{Source}
 use Rattle.stamps.specs.declared.Item.{Item}
 use Rattle.stamps.specs.declared.Row.{Row}
@@ -9,11 +9,13 @@ use Rattle.stamps.specs.Counting.{span, keep}
 use Rattle.stamps.specs.Keys.{items_match, part_of}
 use Rattle.stamps.specs.Sources.{other}
 use Rattle.stamps.specs.Stamps.{in_memory, done_before}
-use Rattle.sheets.specs.Layout.{rows_need, row_at, probe_need, Pair, Told, tell, pair_at, put_pair}
+use Rattle.sheets.specs.Layout.{row_at, Pair, Told, tell, pair_at, put_pair}
 use Rattle.sheets.specs.Lists.{list_of}
 use Rattle.sheets.specs.Rows.{spooled}
 use Rattle.pairs.specs.Rooms.{on_from, put_all, read_all, HandsOut}
+use Rattle.pairs.specs.declared.due.Due.{Due}
 use Rattle.pairs.specs.declared.walks.Job.{Job}
+use Rattle.pairs.specs.declared.walks.Spot.{Spot}
 use Rattle.pairs.specs.declared.rooms.Written.{Written}
 use Rattle.pairs.specs.declared.walks.Scope.{Scope}
 use Rattle.pairs.specs.declared.walks.Scope.TheVariants.{All, Portion}
@@ -149,31 +151,17 @@ wanted_pairs scope t = keep (wanted scope t) (every t)
 unfoldable pub pairs_from : Scope → ℕ → Table → List Pair
 pairs_from scope k t = on_from (position t) k (wanted_pairs scope t)
 
--- own is the sheet of the job's source, and stands for A; facing is the other's
-abbrev pub table_of : Job → List ℕ → List ℕ → List ℕ → List ℕ → Table
-table_of j own facing probe counts = record {
-  parts = j.parts;
-  a = record { count = j.rows; row = row_at own; list = list_of j.parts counts probe j.source };
-  b = record { count = j.others; row = row_at facing; list = list_of j.parts counts probe (other j.source) };
+-- the source of the job stands for A
+abbrev pub table_of : Job → Table
+table_of j = record {
+  parts = j.lists.parts.count;
+  a = record { count = j.own.rows; row = row_at j.own.words.now; list = list_of j.lists.parts.count j.lists.counts.now j.lists.probe.now j.source };
+  b = record { count = j.facing.rows; row = row_at j.facing.words.now; list = list_of j.lists.parts.count j.lists.counts.now j.lists.probe.now (other j.source) };
 }
 
--- what the callers have checked
-pub record Ready (j : Job) (own facing probe counts : List ℕ) : Type 0 where
-  pub own_few : j.rows ≤ 4096
-  pub facing_few : j.others ≤ 4096
-  pub own_long : rows_need j.rows ≤ length own
-  pub facing_long : rows_need j.others ≤ length facing
-  pub some_parts : 0 < j.parts
-  pub few_parts : j.parts ≤ 16
-  pub probe_long : probe_need j.parts ≤ length probe
-  pub short : (k : ℕ) → k < 2 * j.parts → get_or counts k 0 ≤ 32
-
--- the first number from `from` on that passes a test, or n
-pub record NextIs (t : ℕ → Bool) (n from r : ℕ) : Type 0 where
-  pub from_le : from ≤ r
-  pub le_end : r ≤ n
-  pub none_between : (k : ℕ) → k < r → from ≤ k → t k ≡ false
-  pub is_next : r < n → t r ≡ true
+-- the first number from `from` on and below n that passes a test, if there is one
+abbrev pub NextIs : (ℕ → Bool) → ℕ → ℕ → Option ℕ → Type 0
+NextIs t n from r = MatchOption r ((k : ℕ) → from ≤ k → k < n → t k ≡ false) (λ i. (from ≤ i) × (i < n) × (t i ≡ true) × ((k : ℕ) → from ≤ k → k < i → t k ≡ false))
 
 -- row i of A with m rows of B from row j on
 abbrev pub across : ℕ → ℕ → ℕ → List Pair
@@ -192,12 +180,18 @@ left_rows m i j (suc k) = across i j (m - j) ++ down (suc i) k m
 abbrev pub left_from : Scope → Table → ℕ → ℕ → List Pair
 left_from scope t i j = keep (wanted scope t) (left_rows t.b.count i j (t.a.count - i))
 
--- the next wanted pair from (i, j) on, or the end
-pub record SpotIs (scope : Scope) (t : Table) (i j i' j' : ℕ) : Type 0 where
-  pub none_between : left_from scope t i j ≡ left_from scope t i' j'
-  pub in_rows : i' ≤ t.a.count
-  pub in_row : i' < t.a.count → j' < t.b.count
-  pub is_wanted : i' < t.a.count → wanted scope t (record { a = i'; b = j' }) ≡ true
+-- the pair at a spot
+abbrev pub pair_of : Spot → Pair
+pair_of s = record { a = s.row; b = s.facing }
+
+-- the wanted pairs that a walk has not come to
+abbrev pub due_left : Due → List Pair
+due_left d = left_from d.job.scope (table_of d.job) d.from.row d.from.facing
+
+-- a walk's next step: to the first of these
+abbrev pub DueStep : Due → Option Spot → Due → Type 0
+DueStep s r t = (t.job ≡ s.job)
+    × MatchOption r ((due_left s ≡ []) × (due_left t ≡ [])) (λ x. (due_left s ≡ pair_of x ∷ due_left t) × (x.row < s.job.own.rows) × (x.facing < s.job.facing.rows))
 
 -- as many of the pairs as there is room for are written; "if none remains, [the position] becomes (A rows) x (B rows)"
 abbrev pub Writes : Source → Table → List Pair → ℕ → ℕ → List ℕ → List ℕ → Written → Type 0

@@ -2,6 +2,8 @@
 #![tactic(auto)]
 
 pub mod arrivals;
+pub mod due;
+pub mod lone_rows;
 pub mod lones;
 pub mod rooms;
 pub mod walks;

@@ -1,60 +1,63 @@
 // The rows of a source that match no row of the other.
-ghost use Rattle.std.specs.Prelude.{◌≤◌, ◌<◌, length};
-ghost use Rattle.sheets.specs.Layout.{rows_need, singles_need};
-ghost use Rattle.pairs.specs.Lones.{items_in, is_lone, lones_from, Lists};
+ghost use Rattle.std.specs.Prelude.{◌≡◌, ◌≤◌, ◌<◌, length};
+ghost use Rattle.stamps.specs.Keys.{items_match};
+ghost use Rattle.sheets.specs.Layout.{singles_need, row_at};
 ghost use Rattle.pairs.specs.Pairs.{NextIs};
+ghost use Rattle.pairs.specs.Lones.{items_in, is_lone, lones_from, Lists};
 
+use crate::lone_rows::LoneRows;
 use crate::rooms::Written;
-use crate::walks::next_match;
-use sheets::layout::{item_at, put_single};
+use sheets::layout::{Sheet, put_single};
+use stamps::Item;
 
-// The first row from `from` on without partner, or rows.
-fn next_lone(own: &[u32], rows: usize, facing: &[u32], others: usize, from: usize) -> usize
-    requires { (rows_need rows ≤ length own.now) × (rows_need others ≤ length facing.now) × (from ≤ rows) }
-    ensures { NextIs (is_lone (items_in rows others own.now facing.now)) rows from result }
+// The first row from `from` on whose item matches: the inner loop of lone calls. It reads keys only.
+fn next_match(sheet: &Sheet, from: usize, item: Item) -> Option<usize>
+    ensures { NextIs (λ j. items_match item (row_at sheet.now.words.now j).item) sheet.now.rows from result }
 {
-    let mut i = from;
-    while i < rows {
-        if next_match(facing, others, 0, item_at(own, i)) == others {
-            return i;
-        }
-        i += 1;
-    }
-    rows
+    (from..sheet.rows).find(|&row| stamps::items_match(item, sheet.item(row)))
 }
 
-// Writes the rows without partner from the position on until the room is used up.
+// Row number row matches no row across.
+pub fn is_lone(own: &Sheet, facing: &Sheet, row: usize) -> bool
+    requires { row < own.now.rows }
+    ensures { result ≡ is_lone (items_in own.now.rows facing.now.rows own.now.words.now facing.now.words.now) row }
+{
+    next_match(facing, 0, own.item(row)).is_none()
+}
+
+// Writes the rows without partner from the position on until the room is used up. The loop is that of a job's pairs: a trait over both
+// walks, with what each writes and where it stands, is longer than the two loops and no plainer.
 pub fn write_lones(
-    own: &[u32],
-    rows: usize,
-    facing: &[u32],
-    others: usize,
+    own: &Sheet,
+    facing: &Sheet,
     position: usize,
     out: &mut [u32],
     room: usize,
 ) -> Written
-    requires { (rows_need rows ≤ length own.now) × (rows_need others ≤ length facing.now) × (rows ≤ 4096) × (position ≤ rows) × (singles_need room ≤ length out.old) }
-    ensures { let t = items_in rows others own.now facing.now in Lists t (lones_from position t) position room out.old out.new result }
+    requires { (own.now.rows ≤ 4096) × (position ≤ own.now.rows) × (singles_need room ≤ length out.old) }
+    ensures { let t = items_in own.now.rows facing.now.rows own.now.words.now facing.now.words.now in Lists t (lones_from position t) position room out.old out.new result }
 {
-    let mut row = next_lone(own, rows, facing, others, position);
-    let mut count: usize = 0;
+    let mut count = 0;
     let mut next = position;
-    while row < rows {
-        if room <= count {
+    for row in (LoneRows {
+        own: *own,
+        facing: *facing,
+        from: position,
+    }) {
+        if count == room {
             return Written {
                 count,
                 more: true,
                 next,
             };
         }
-        put_single(out, count, row as u32, item_at(own, row));
+        put_single(out, count, row as u32, own.item(row));
         count += 1;
         next = row + 1;
-        row = next_lone(own, rows, facing, others, next);
     }
     Written {
         count,
         more: false,
-        next: rows,
+        next: own.rows,
     }
 }

@@ -2,12 +2,12 @@
 // write leaves is the writer's: it may have some of the bytes. Nothing else is changed, and there is no other error.
 #![tactic(auto)]
 
-ghost use Rattle.std.specs.Prelude.{◌≡◌, ◌+◌, ◌≤◌, ◌<◌, ◌++◌, length, OnOk};
+ghost use Rattle.std.specs.Prelude.{◌≡◌, ◌≤◌, ◌++◌, length, OnOk};
 ghost use Rattle.std.specs.Io.KnownBytes.{Appends};
 ghost use Rattle.text.specs.Putting.{LF, numbers_text, line_text};
-ghost use Rattle.printout.specs.Pieces.{piece_most};
 ghost use Rattle.printout.specs.Printed.{BAD, told_of, answer_line, session_line, reply_lines};
 
+use arrayvec::ArrayVec;
 use replies::code_of;
 use rules::{Answer, Reply, Session, Why};
 use std::io;
@@ -19,13 +19,6 @@ const PIECE: usize = 256;
 
 const TEXT: usize = 11 * PIECE;
 
-// An answer's kind by number, and its own number; a refusal's is its code.
-#[derive(Clone, Copy)]
-struct Told {
-    kind: u32,
-    n: u32,
-}
-
 pub fn print_bad<W: Write>(out: &mut W) -> io::Result<()>
     ensures { OnOk result (Appends (W.contents out.old) (W.contents out.new) (BAD ++ LF)) }
 {
@@ -33,34 +26,20 @@ pub fn print_bad<W: Write>(out: &mut W) -> io::Result<()>
 }
 
 fn print_piece<W: Write>(out: &mut W, numbers: &[u32]) -> io::Result<()>
-    requires { length numbers.now ≤ piece_most }
+    requires { length numbers.now ≤ PIECE }
     ensures { OnOk result (Appends (W.contents out.old) (W.contents out.new) (numbers_text numbers.now)) }
 {
-    let mut text = [0u8; TEXT];
-    let end = put_numbers(&mut text, 0, numbers);
-    out.write_all(&text[..end])
-}
-
-// Where the piece that starts at i ends.
-fn piece_end(i: usize, n: usize) -> usize
-    requires { i < n }
-    ensures { (i < result) × (result ≤ n) × (result ≤ i + piece_most) }
-{
-    if n - i < PIECE {
-        return n;
-    }
-    i + PIECE
+    let mut text = ArrayVec::<u8, TEXT>::new();
+    put_numbers(&mut text, numbers);
+    out.write_all(text.as_slice())
 }
 
 // Numbers, each after a space.
 fn print_numbers<W: Write>(out: &mut W, numbers: &[u32]) -> io::Result<()>
     ensures { OnOk result (Appends (W.contents out.old) (W.contents out.new) (numbers_text numbers.now)) }
 {
-    let mut i = 0;
-    while i < numbers.len() {
-        let end = piece_end(i, numbers.len());
-        print_piece(out, &numbers[i..end])?;
-        i = end;
+    for piece in numbers.chunks(PIECE) {
+        print_piece(out, piece)?;
     }
     Ok(())
 }
@@ -73,23 +52,21 @@ pub fn print_line<W: Write>(out: &mut W, word: &[u8], numbers: &[u32]) -> io::Re
     out.write_all(b"\n")
 }
 
-fn told_of(answer: Answer) -> Told
+// An answer's kind, by the number that the line has for it, and its own number; a refusal's is its code.
+fn told_of(answer: Answer) -> (u32, u32)
     ensures { result ≡ told_of answer }
 {
     match answer {
-        Answer::Opened => Told { kind: 0, n: 0 },
-        Answer::Taken(n) => Told { kind: 1, n },
-        Answer::Flushed(n) => Told { kind: 2, n },
-        Answer::Ran(n) => Told { kind: 3, n },
-        Answer::Shut => Told { kind: 4, n: 0 },
-        Answer::More(n) => Told { kind: 5, n },
-        Answer::Done(n) => Told { kind: 6, n },
-        Answer::MoreLone(n) => Told { kind: 7, n },
-        Answer::DoneLone(n) => Told { kind: 8, n },
-        Answer::Refused(why) => Told {
-            kind: 9,
-            n: code_of(why),
-        },
+        Answer::Opened => (0, 0),
+        Answer::Taken(n) => (1, n),
+        Answer::Flushed(n) => (2, n),
+        Answer::Ran(n) => (3, n),
+        Answer::Shut => (4, 0),
+        Answer::More(n) => (5, n),
+        Answer::Done(n) => (6, n),
+        Answer::MoreLone(n) => (7, n),
+        Answer::DoneLone(n) => (8, n),
+        Answer::Refused(why) => (9, code_of(why)),
     }
 }
 
@@ -97,23 +74,17 @@ fn told_of(answer: Answer) -> Told
 fn print_answer<W: Write>(out: &mut W, answer: Answer) -> io::Result<()>
     ensures { OnOk result (Appends (W.contents out.old) (W.contents out.new) (answer_line answer)) }
 {
-    let told = told_of(answer);
-    if let Answer::Refused(why) = answer {
-        if let Why::RoomShort(need) = why {
-            return print_line(out, b"ANSWER", &[told.kind, told.n, need]);
-        }
+    let (kind, n) = told_of(answer);
+    if let Answer::Refused(Why::RoomShort(need)) = answer {
+        return print_line(out, b"ANSWER", &[kind, n, need]);
     }
-    print_line(out, b"ANSWER", &[told.kind, told.n])
+    print_line(out, b"ANSWER", &[kind, n])
 }
 
 // A record's numbers, in the order of a case.
 fn print_session<W: Write>(out: &mut W, session: Session) -> io::Result<()>
     ensures { OnOk result (Appends (W.contents out.old) (W.contents out.new) (session_line session)) }
 {
-    let a = session.a;
-    let b = session.b;
-    let counts = session.counts;
-    let lone = session.lone;
     out.write_all(b"SESSION")?;
     print_numbers(
         out,
@@ -122,14 +93,14 @@ fn print_session<W: Write>(out: &mut W, session: Session) -> io::Result<()>
             session.slots,
             session.limit,
             session.clock,
-            a.rows,
-            b.rows,
-            a.closed as u32,
-            b.closed as u32,
+            session.feeds.a.rows,
+            session.feeds.b.rows,
+            session.feeds.a.closed as u32,
+            session.feeds.b.closed as u32,
         ],
     )?;
-    print_numbers(out, &counts)?;
-    print_numbers(out, &[session.next, lone.a, lone.b])?;
+    print_numbers(out, &session.counts)?;
+    print_numbers(out, &[session.next, session.lone.a, session.lone.b])?;
     out.write_all(b"\n")
 }
 
@@ -137,8 +108,6 @@ fn print_session<W: Write>(out: &mut W, session: Session) -> io::Result<()>
 pub fn print_reply<W: Write>(out: &mut W, reply: Reply) -> io::Result<()>
     ensures { OnOk result (Appends (W.contents out.old) (W.contents out.new) (reply_lines reply)) }
 {
-    let answer = reply.answer;
-    let session = reply.session;
-    print_answer(out, answer)?;
-    print_session(out, session)
+    print_answer(out, reply.answer)?;
+    print_session(out, reply.session)
 }

@@ -9,30 +9,25 @@ use lib.Dec.{leb, eqb}
 use lib.ListN.{length, take}
 use lib.Seq.{take_all, length-take-le}
 use borrow.Author.Tests.{leb-true, leb-false}
+use Rattle.std.specs.Prelude.{Option, Some, None}
+use Rattle.std.specs.Bool.{then_some}
+use Rattle.std.specs.Option.{option_map, option_and_then, option_zip}
 use Rattle.stamps.specs.declared.Source.{Source}
 use Rattle.text.specs.Fields.{fields, field_at}
-use Rattle.text.specs.declared.numbers.Number.{Number}
-use Rattle.text.specs.declared.numbers.Number.TheVariants as number
 use Rattle.text.specs.Gathering.{Holds}
 use Rattle.sheets.specs.Layout.{pairs_need}
 use Rattle.rules.specs.Rounds.{room_in}
-use Rattle.reading.specs.Reading.{line_most, number_at, side_at, three_of, start, arrive, sourced_of, evict, run, close, room_most, roomed, drain, lone, close_line, drain_line, line_of, read_line}
+use Rattle.reading.specs.Reading.{line_most, number_at, source_at, room_at, roomed, three_of, start, arrive, sourced_of, evict, run, close, room_most, lone, close_line, drain_line, lone_line, line_of, read_line}
 use Rattle.reading.specs.Words.{word_of}
 use Rattle.reading.specs.declared.Line.{Line}
 use Rattle.reading.specs.declared.Line.TheVariants as line
-use Rattle.reading.specs.declared.Three.{Three}
-use Rattle.reading.specs.declared.Three.TheVariants as three
-use Rattle.reading.specs.declared.Sourced.{Sourced}
-use Rattle.reading.specs.declared.Sourced.TheVariants as sourced
-use Rattle.reading.specs.declared.words.Side.{Side}
-use Rattle.reading.specs.declared.words.Side.TheVariants as side
 use Rattle.reading.specs.declared.words.Word.{Word}
 use Rattle.reading.specs.declared.words.Word.TheVariants as word
 
 -- a line in its buffer reads as the whole line
-pub read_held : (l : List ℕ) (have : ℕ) (line : List ℕ) → Holds line_most l have line → read_line (take have l) ≡ read_line line
+pub read_held : (l line : List ℕ) → Holds line_most l line → read_line l ≡ read_line line
 unfolding read_line
-read_held l have line h = rw h.same (go (leb (length line) 80) refl)
+read_held l line h = rw h (go (leb (length line) 80) refl)
   where
     go : (u : Bool) → leb (length line) 80 ≡ u → read_line (take line_most line) ≡ read_line line
     go true e = ap read_line (take_all line_most line (omega (arith, leb-true (length line) 80 e)))
@@ -45,63 +40,58 @@ RoomFits (line.Start p m n) = Unit
 RoomFits (line.Ask c) = room_in c (pairs_need room_most) ≤ room_most
 RoomFits (line.Drain room) = room ≤ room_most
 RoomFits (line.Lone s room) = room ≤ room_most
-RoomFits line.Bad = Unit
 
-start_fits : (x : Three) → RoomFits (start x)
-start_fits (three.Of p m n) = tt
-start_fits three.Bad = tt
+-- the same of a line that may say nothing
+abbrev pub AskedFits : Option Line → Type 0
+AskedFits None = Unit
+AskedFits (Some x) = RoomFits x
 
-arrive-fits : (s : Source) (x : Three) → RoomFits (arrive s x)
-arrive-fits s (three.Of heat car lap) = omega arith
-arrive-fits s three.Bad = tt
-
-evict-fits : (p : Sourced) → RoomFits (evict p)
-evict-fits (sourced.Of s p) = omega arith
-evict-fits sourced.Bad = tt
-
-run_fits : (p : Sourced) → RoomFits (run p)
-run_fits (sourced.Of s p) = omega arith
-run_fits sourced.Bad = tt
-
-close-fits : (x : Side) → RoomFits (close x)
-close-fits (side.Of s) = omega arith
-close-fits side.Neither = tt
-
-roomed-fits : (room : ℕ) (x : Line) → (room ≤ room_most → RoomFits x) → RoomFits (roomed room x)
-roomed-fits room x h = go (leb room room_most) refl
-  where
-    go : (u : Bool) → leb room room_most ≡ u → RoomFits (cond u x line.Bad)
-    go true e = h (leb-true room room_most e)
-    go false e = tt
-
-drain-fits : (x : Number) → RoomFits (drain x)
-drain-fits (number.Value room) = roomed-fits room (line.Drain room) (λ h. h)
-drain-fits number.Bad = tt
-
-lone-fits : (p : Sourced) → RoomFits (lone p)
-lone-fits (sourced.Of s room) = roomed-fits room (line.Lone s room) (λ h. h)
-lone-fits sourced.Bad = tt
+-- what fits whatever it says
+map_fits : {X : Type 0} (f : X → Line) → ((x : X) → RoomFits (f x)) → (o : Option X) → AskedFits (option_map f o)
+map_fits f h None = tt
+map_fits f h (Some x) = h x
 
 -- a test passed or not: what says nothing fits
-fits_if : (u : Bool) (x : Line) → RoomFits x → RoomFits (cond u x line.Bad)
-fits_if true x h = h
-fits_if false x h = tt
+fits_if : (u : Bool) (o : Option Line) → AskedFits o → AskedFits (cond u o None)
+fits_if true o h = h
+fits_if false o h = tt
 
-line_fits : (w : Word) (fs : List (List ℕ)) → RoomFits (line_of w fs)
-unfolding close_line drain_line
-line_fits word.Start fs = start_fits (three_of fs)
-line_fits (word.Arrive s) fs = arrive-fits s (three_of fs)
-line_fits word.Evict fs = evict-fits (sourced_of fs)
-line_fits word.Run fs = run_fits (sourced_of fs)
-line_fits word.Close fs = fits_if (eqb (length fs) 2) _ (close-fits (side_at fs 1))
-line_fits word.Drain fs = fits_if (eqb (length fs) 2) _ (drain-fits (number_at fs 1))
-line_fits word.Lone fs = lone-fits (sourced_of fs)
-line_fits word.Unknown fs = tt
+-- a room that is read is one of at most 512
+room_read : (n : Option ℕ) (room : ℕ) → option_and_then roomed n ≡ Some room → room ≤ room_most
+room_read None room e = cc
+room_read (Some n) room e = go (leb n room_most) refl e
+  where
+    go : (u : Bool) → leb n room_most ≡ u → then_some u n ≡ Some room → room ≤ room_most
+    go true b f = let same : n ≡ room = cc in omega (arith, leb-true n room_most b)
+    go false b f = cc
 
-pub room_fits : (l : List ℕ) → RoomFits (read_line l)
+drain-fits : (r : Option ℕ) → ((room : ℕ) → r ≡ Some room → room ≤ room_most) → AskedFits (option_map line.Drain r)
+drain-fits None h = tt
+drain-fits (Some room) h = h room refl
+
+lone-fits : (s : Option Source) (r : Option ℕ) → ((room : ℕ) → r ≡ Some room → room ≤ room_most) → AskedFits (option_map lone (option_zip s r))
+lone-fits None r h = tt
+lone-fits (Some s) None h = tt
+lone-fits (Some s) (Some room) h = h room refl
+
+line_fits : (fs : List (List ℕ)) (w : Word) → AskedFits (line_of fs w)
+unfolding close_line drain_line lone_line
+line_fits fs word.Start = map_fits start (λ n. tt) (three_of fs)
+line_fits fs (word.Arrive s) = map_fits (arrive s) (λ n. omega arith) (three_of fs)
+line_fits fs word.Evict = map_fits evict (λ p. omega arith) (sourced_of fs)
+line_fits fs word.Run = map_fits run (λ p. omega arith) (sourced_of fs)
+line_fits fs word.Close = fits_if (eqb (length fs) 2) _ (map_fits close (λ s. omega arith) (source_at fs 1))
+line_fits fs word.Drain = fits_if (eqb (length fs) 2) _ (drain-fits (room_at fs 1) (room_read (number_at fs 1)))
+line_fits fs word.Lone = fits_if (eqb (length fs) 3) _ (lone-fits (source_at fs 1) (room_at fs 2) (room_read (number_at fs 2)))
+
+word_fits : (fs : List (List ℕ)) (w : Option Word) → AskedFits (option_and_then (line_of fs) w)
+word_fits fs None = tt
+word_fits fs (Some w) = line_fits fs w
+
+pub room_fits : (l : List ℕ) → AskedFits (read_line l)
 unfolding read_line
-room_fits l = fits_if (leb (length l) 80) _ (line_fits (word_of (field_at l 0)) (fields l))
+room_fits l = fits_if (leb (length l) 80) _ (word_fits (fields l) (word_of (field_at l 0)))
 
 -- the same of a line that was read
-pub read_fits : (l : List ℕ) {x y : Line} → x ≡ read_line l → x ≡ y → RoomFits y
-read_fits l e f = subst RoomFits (sym e ∙ f) (room_fits l)
+pub read_fits : (l : List ℕ) {o : Option Line} {x : Line} → o ≡ read_line l → o ≡ Some x → RoomFits x
+read_fits l e f = subst AskedFits (sym e ∙ f) (room_fits l)

@@ -3,13 +3,13 @@
 
 ghost use Rattle.std.specs.Prelude.{◌≡◌};
 ghost use Rattle.text.specs.Fields.{fields};
-ghost use Rattle.reading.specs.Reading.{number_at, side_at, three_of, start_line, arrive_line, sourced_of, evict_line, run_line, close_line, drain_line, lone_line, read_line};
+ghost use Rattle.reading.specs.Reading.{number_at, source_at, room_at, three_of, start_line, arrive_line, sourced_of, evict_line, run_line, close_line, drain_line, lone_line, read_line};
 
-use crate::words::{Side, Word, read_side, read_word};
+use crate::words::{Word, read_source, read_word};
 use rules::Call;
 use stamps::{Message, Source};
 use text::fields::{count, field};
-use text::numbers::{Number, read_number};
+use text::numbers::read_number;
 
 pub mod words;
 
@@ -25,158 +25,125 @@ const DIGITS: usize = 4;
 // The most pairs or rows that a line may name as room; the output has room for so many pairs.
 pub const ROOM: u32 = 512;
 
-// An opening with P, M and N; a call; a drain, or a source whose rows without partner are listed, with the room that is named;
-// or a line that says nothing.
+// An opening with P, M and N; a call; a drain, or a source whose rows without partner are listed, with the room that is named.
 #[derive(Clone, Copy)]
 pub enum Line {
     Start(u32, u32, u32),
     Ask(Call),
     Drain(u32),
     Lone(Source, u32),
-    Bad,
 }
 
-// The three numbers after a word: P, M and N, or a heat, a car and a lap.
-#[derive(Clone, Copy)]
-enum Three {
-    Of(u32, u32, u32),
-    Bad,
-}
-
-// A source and the number after it: a partition of it, or a room.
-#[derive(Clone, Copy)]
-enum Sourced {
-    Of(Source, u32),
-    Bad,
-}
-
-fn number_at(line: &[u8], k: usize) -> Number
+fn number_at(line: &[u8], k: usize) -> Option<u32>
     ensures { result ≡ number_at (fields line.now) k }
 {
     read_number(field(line, k), DIGITS)
 }
 
-fn side_at(line: &[u8], k: usize) -> Side
-    ensures { result ≡ side_at (fields line.now) k }
+fn source_at(line: &[u8], k: usize) -> Option<Source>
+    ensures { result ≡ source_at (fields line.now) k }
 {
-    read_side(field(line, k))
+    read_source(field(line, k))
 }
 
-fn read_three(line: &[u8]) -> Three
+// A number that may be named as room.
+fn room_at(line: &[u8], k: usize) -> Option<u32>
+    ensures { result ≡ room_at (fields line.now) k }
+{
+    number_at(line, k).filter(|room| *room <= ROOM)
+}
+
+// The three numbers after a word: P, M and N, or a heat, a car and a lap.
+#[tactic(auto, unfolding(crate::specs::Reading::three_of))]
+fn read_three(line: &[u8]) -> Option<(u32, u32, u32)>
     ensures { result ≡ three_of (fields line.now) }
 {
     if count(line) != 4 {
-        return Three::Bad;
+        return None;
     }
-    let Number::Value(first) = number_at(line, 1) else {
-        return Three::Bad;
-    };
-    let Number::Value(second) = number_at(line, 2) else {
-        return Three::Bad;
-    };
-    let Number::Value(third) = number_at(line, 3) else {
-        return Three::Bad;
-    };
-    Three::Of(first, second, third)
+    Some((
+        number_at(line, 1)?,
+        number_at(line, 2)?,
+        number_at(line, 3)?,
+    ))
 }
 
-fn start_line(line: &[u8]) -> Line
+fn start_line(line: &[u8]) -> Option<Line>
     ensures { result ≡ start_line (fields line.now) }
 {
-    let Three::Of(parts, slots, limit) = read_three(line) else {
-        return Line::Bad;
-    };
-    Line::Start(parts, slots, limit)
+    let (parts, slots, limit) = read_three(line)?;
+    Some(Line::Start(parts, slots, limit))
 }
 
-fn arrive_line(source: Source, line: &[u8]) -> Line
+fn arrive_line(source: Source, line: &[u8]) -> Option<Line>
     ensures { result ≡ arrive_line source (fields line.now) }
 {
-    let Three::Of(heat, car, lap) = read_three(line) else {
-        return Line::Bad;
-    };
-    Line::Ask(Call::Arrive(source, Message { heat, car, lap }))
+    let (heat, car, lap) = read_three(line)?;
+    Some(Line::Ask(Call::Arrive(source, Message { heat, car, lap })))
 }
 
-fn read_sourced(line: &[u8]) -> Sourced
+// A source, and the number of a partition of it.
+#[tactic(auto, unfolding(crate::specs::Reading::sourced_of))]
+fn read_sourced(line: &[u8]) -> Option<(Source, u32)>
     ensures { result ≡ sourced_of (fields line.now) }
 {
     if count(line) != 3 {
-        return Sourced::Bad;
+        return None;
     }
-    let Side::Of(source) = side_at(line, 1) else {
-        return Sourced::Bad;
-    };
-    let Number::Value(part) = number_at(line, 2) else {
-        return Sourced::Bad;
-    };
-    Sourced::Of(source, part)
+    source_at(line, 1).zip(number_at(line, 2))
 }
 
-fn evict_line(line: &[u8]) -> Line
+// A line each for a portion to evict and one to run: one function that took the call to make would need a clause on what it makes, longer than both.
+fn evict_line(line: &[u8]) -> Option<Line>
     ensures { result ≡ evict_line (fields line.now) }
 {
-    let Sourced::Of(source, part) = read_sourced(line) else {
-        return Line::Bad;
-    };
-    Line::Ask(Call::Evict(source, part))
+    read_sourced(line).map(|(source, part)| Line::Ask(Call::Evict(source, part)))
 }
 
-fn run_line(line: &[u8]) -> Line
+fn run_line(line: &[u8]) -> Option<Line>
     ensures { result ≡ run_line (fields line.now) }
 {
-    let Sourced::Of(source, part) = read_sourced(line) else {
-        return Line::Bad;
-    };
-    Line::Ask(Call::Run(source, part))
+    read_sourced(line).map(|(source, part)| Line::Ask(Call::Run(source, part)))
 }
 
-fn close_line(line: &[u8]) -> Line
+#[tactic(auto, unfolding(crate::specs::Reading::close_line))]
+fn close_line(line: &[u8]) -> Option<Line>
     ensures { result ≡ close_line (fields line.now) }
 {
     if count(line) != 2 {
-        return Line::Bad;
+        return None;
     }
-    let Side::Of(source) = side_at(line, 1) else {
-        return Line::Bad;
-    };
-    Line::Ask(Call::Close(source))
+    source_at(line, 1).map(|source| Line::Ask(Call::Close(source)))
 }
 
-fn drain_line(line: &[u8]) -> Line
+#[tactic(auto, unfolding(crate::specs::Reading::drain_line))]
+fn drain_line(line: &[u8]) -> Option<Line>
     ensures { result ≡ drain_line (fields line.now) }
 {
     if count(line) != 2 {
-        return Line::Bad;
+        return None;
     }
-    let Number::Value(room) = number_at(line, 1) else {
-        return Line::Bad;
-    };
-    if ROOM < room {
-        return Line::Bad;
-    }
-    Line::Drain(room)
+    room_at(line, 1).map(Line::Drain)
 }
 
-fn lone_line(line: &[u8]) -> Line
+#[tactic(auto, unfolding(crate::specs::Reading::lone_line))]
+fn lone_line(line: &[u8]) -> Option<Line>
     ensures { result ≡ lone_line (fields line.now) }
 {
-    let Sourced::Of(source, room) = read_sourced(line) else {
-        return Line::Bad;
-    };
-    if ROOM < room {
-        return Line::Bad;
+    if count(line) != 3 {
+        return None;
     }
-    Line::Lone(source, room)
+    Some(Line::Lone(source_at(line, 1)?, room_at(line, 2)?))
 }
 
-pub fn read_line(line: &[u8]) -> Line
+#[tactic(auto, unfolding(crate::specs::Reading::read_line))]
+pub fn read_line(line: &[u8]) -> Option<Line>
     ensures { result ≡ read_line line.now }
 {
     if LONGEST < line.len() {
-        return Line::Bad;
+        return None;
     }
-    match read_word(field(line, 0)) {
+    match read_word(field(line, 0))? {
         Word::Start => start_line(line),
         Word::Arrive(source) => arrive_line(source, line),
         Word::Evict => evict_line(line),
@@ -184,6 +151,5 @@ pub fn read_line(line: &[u8]) -> Line
         Word::Close => close_line(line),
         Word::Drain => drain_line(line),
         Word::Lone => lone_line(line),
-        Word::Unknown => Line::Bad,
     }
 }

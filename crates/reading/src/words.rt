@@ -1,16 +1,8 @@
 // The words of a line, compared as fixed byte strings.
 ghost use Rattle.std.specs.Prelude.{◌≡◌};
-ghost use Rattle.reading.specs.Words.{side_of, word_of};
+ghost use Rattle.reading.specs.Words.{source_of, word_of};
 
 use stamps::Source;
-use text::comparing::is_same;
-
-// "A source is A or B."
-#[derive(Clone, Copy)]
-pub enum Side {
-    Of(Source),
-    Neither,
-}
 
 // The first field of a line; A and B are the words of an arrival.
 #[derive(Clone, Copy)]
@@ -22,44 +14,33 @@ pub enum Word {
     Close,
     Drain,
     Lone,
-    Unknown,
 }
 
-pub fn read_side(text: &[u8]) -> Side
-    ensures { result ≡ side_of text.now }
+// "A source is A or B."
+#[tactic(auto, using(crate::proofs::WordTests::word_tests), unfolding(crate::specs::Words::source_of))]
+pub fn read_source(text: &[u8]) -> Option<Source>
+    ensures { result ≡ source_of text.now }
 {
-    if is_same(text, b"A") {
-        return Side::Of(Source::A);
+    match text {
+        b"A" => Some(Source::A),
+        b"B" => Some(Source::B),
+        _ => None,
     }
-    if is_same(text, b"B") {
-        return Side::Of(Source::B);
-    }
-    Side::Neither
 }
 
-pub fn read_word(text: &[u8]) -> Word
+#[tactic(auto, using(crate::proofs::WordTests::word_tests), unfolding(crate::specs::Words::word_of, crate::specs::Words::source_of))]
+pub fn read_word(text: &[u8]) -> Option<Word>
     ensures { result ≡ word_of text.now }
 {
-    if is_same(text, b"START") {
-        return Word::Start;
-    }
-    if is_same(text, b"EVICT") {
-        return Word::Evict;
-    }
-    if is_same(text, b"RUN") {
-        return Word::Run;
-    }
-    if is_same(text, b"CLOSE") {
-        return Word::Close;
-    }
-    if is_same(text, b"DRAIN") {
-        return Word::Drain;
-    }
-    if is_same(text, b"LONE") {
-        return Word::Lone;
-    }
-    match read_side(text) {
-        Side::Of(source) => Word::Arrive(source),
-        Side::Neither => Word::Unknown,
+    match text {
+        b"START" => Some(Word::Start),
+        b"A" => Some(Word::Arrive(Source::A)),
+        b"B" => Some(Word::Arrive(Source::B)),
+        b"EVICT" => Some(Word::Evict),
+        b"RUN" => Some(Word::Run),
+        b"CLOSE" => Some(Word::Close),
+        b"DRAIN" => Some(Word::Drain),
+        b"LONE" => Some(Word::Lone),
+        _ => None,
     }
 }

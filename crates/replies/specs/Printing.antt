@@ -1,5 +1,5 @@
 -- What the program prints: "PAIR", "LONE", "OK", "DONE" and "NO" lines, fields "parted by one space", numbers as "plain decimals".
-use Rattle.std.specs.Prelude.{List, [], ◌∷◌, ◌++◌, map, ℕ, ◌+◌, ◌*◌}
+use Rattle.std.specs.Prelude.{List, [], ◌∷◌, ◌++◌, map, ℕ, ◌+◌, ◌*◌, codes, Option, Some, None}
 pub use Rattle.rules.specs.Answers.{code_of, pairs_of, singles_of, written_of}
 use Rattle.text.specs.Putting.{line_text, lines_text, said}
 use Rattle.sheets.specs.Layout.{pair_at, pair_words, single_at, single_words}
@@ -8,32 +8,28 @@ use Rattle.rules.specs.declared.Answer.{Answer}
 use Rattle.rules.specs.declared.Answer.TheVariants as answer
 use Rattle.rules.specs.declared.Why.{Why}
 use Rattle.rules.specs.declared.Why.TheVariants as why
-use Rattle.replies.specs.declared.Need.{Need}
-use Rattle.replies.specs.declared.Need.TheVariants as need
-use Rattle.replies.specs.declared.Saying.{Saying}
-use Rattle.replies.specs.declared.Saying.TheVariants as saying
 
 -- ---- fixed words
 
--- "PAIR"
+-- the word of a pair
 abbrev pub PAIR : List ℕ
-PAIR = 80 ∷ 65 ∷ 73 ∷ 82 ∷ []
+PAIR = codes "PAIR"
 
--- "LONE"
+-- of a row without partner
 abbrev pub LONE : List ℕ
-LONE = 76 ∷ 79 ∷ 78 ∷ 69 ∷ []
+LONE = codes "LONE"
 
--- "OK"
+-- of a call that was done, where more may remain
 abbrev pub OK : List ℕ
-OK = 79 ∷ 75 ∷ []
+OK = codes "OK"
 
--- "DONE"
+-- of one after which none remains
 abbrev pub DONE : List ℕ
-DONE = 68 ∷ 79 ∷ 78 ∷ 69 ∷ []
+DONE = codes "DONE"
 
--- "NO"
+-- of a refusal
 abbrev pub NO : List ℕ
-NO = 78 ∷ 79 ∷ []
+NO = codes "NO"
 
 -- ---- what an output holds
 
@@ -44,49 +40,31 @@ row_most = 38
 -- ---- answers
 
 -- the count that a refusal names, where it names one
-abbrev pub need_of : Why → Need
-need_of why.BadSheet = need.Nothing
-need_of why.BadKey = need.Nothing
-need_of why.BadPart = need.Nothing
-need_of why.Closed = need.Nothing
-need_of why.SheetFull = need.Nothing
-need_of why.ListFull = need.Nothing
-need_of why.StillOpen = need.Nothing
-need_of (why.RoomShort n) = need.Count n
-need_of why.BadLine = need.Nothing
-need_of why.NoStart = need.Nothing
+abbrev pub need_of : Why → Option ℕ
+need_of (why.RoomShort n) = Some n
+need_of _ = None
 
 -- "with the needed count after code 8"
-abbrev pub need_numbers : Need → List ℕ
-need_numbers (need.Count n) = n ∷ []
-need_numbers need.Nothing = []
+abbrev pub need_numbers : Option ℕ → List ℕ
+need_numbers (Some n) = n ∷ []
+need_numbers None = []
 
 -- "NO code"
 abbrev pub no_text : Why → List ℕ
 no_text w = line_text NO (code_of w ∷ need_numbers (need_of w))
 
--- "n is pairs written; rows flushed for EVICT; 0 for START and CLOSE", rows listed for LONE
-abbrev pub saying_of : Answer → Saying
-saying_of answer.Opened = saying.Ok 0
-saying_of (answer.Taken n) = saying.Ok n
-saying_of (answer.Flushed n) = saying.Ok n
-saying_of (answer.Ran n) = saying.Ok n
-saying_of answer.Shut = saying.Ok 0
-saying_of (answer.More n) = saying.Ok n
-saying_of (answer.Done n) = saying.Done n
-saying_of (answer.MoreLone n) = saying.Ok n
-saying_of (answer.DoneLone n) = saying.Done n
-saying_of (answer.Refused w) = saying.No w
-
--- "OK n", "DONE n" or "NO code"
-abbrev pub saying_text : Saying → List ℕ
-saying_text (saying.Ok n) = said OK n
-saying_text (saying.Done n) = said DONE n
-saying_text (saying.No w) = no_text w
-
--- the line of an answer
+-- "n is pairs written; rows flushed for EVICT; 0 for START and CLOSE", rows listed for LONE: "OK n", "DONE n" or "NO code"
 abbrev pub answer_text : Answer → List ℕ
-answer_text a = saying_text (saying_of a)
+answer_text answer.Opened = said OK 0
+answer_text (answer.Taken n) = said OK n
+answer_text (answer.Flushed n) = said OK n
+answer_text (answer.Ran n) = said OK n
+answer_text answer.Shut = said OK 0
+answer_text (answer.More n) = said OK n
+answer_text (answer.Done n) = said DONE n
+answer_text (answer.MoreLone n) = said OK n
+answer_text (answer.DoneLone n) = said DONE n
+answer_text (answer.Refused w) = no_text w
 
 -- the bytes that an answer takes at most
 abbrev pub answer_most : ℕ

@@ -1,16 +1,17 @@
-// What an answer is printed as, as bytes in a lent buffer. Each function that puts a text answers the place after it.
+// What an answer is printed as, as bytes put behind what a text of fixed capacity holds.
 #![tactic(auto)]
 
-ghost use Rattle.std.specs.Prelude.{◌≡◌, ◌+◌, ◌≤◌, length};
-ghost use Rattle.text.specs.Putting.{Put};
+ghost use Rattle.std.specs.Prelude.{◌≡◌, ◌+◌, ◌≤◌, ◌++◌, length};
+ghost use Rattle.arrayvec.specs.ArrayVec.{array_vec_len};
 ghost use Rattle.sheets.specs.Layout.{pairs_need, singles_need};
-ghost use Rattle.replies.specs.Printing.{code_of, need_of, no_text, saying_of, answer_most, answer_text, pairs_of, singles_of, written_of, reply_most, reply_text};
+ghost use Rattle.replies.specs.Printing.{code_of, no_text, answer_most, answer_text, pairs_of, singles_of, written_of, reply_most, reply_text};
 
+use arrayvec::ArrayVec;
 use rules::{Answer, Why};
 use sheets::layout::{PAIR, SINGLE};
 use text::putting::{put_line, put_lines, put_said};
 
-// The number that document 01 gives a refusal.
+// The number that document 01 gives a refusal. A `u32::from(why)` would not say that it is this number.
 pub fn code_of(why: Why) -> u32
     ensures { result ≡ code_of why }
 {
@@ -28,74 +29,34 @@ pub fn code_of(why: Why) -> u32
     }
 }
 
-// The count that a refusal names, where it names one.
-#[derive(Clone, Copy)]
-enum Need {
-    Count(u32),
-    Nothing,
-}
-
-fn need_of(why: Why) -> Need
-    ensures { result ≡ need_of why }
-{
-    match why {
-        Why::BadSheet => Need::Nothing,
-        Why::BadKey => Need::Nothing,
-        Why::BadPart => Need::Nothing,
-        Why::Closed => Need::Nothing,
-        Why::SheetFull => Need::Nothing,
-        Why::ListFull => Need::Nothing,
-        Why::StillOpen => Need::Nothing,
-        Why::RoomShort(n) => Need::Count(n),
-        Why::BadLine => Need::Nothing,
-        Why::NoStart => Need::Nothing,
-    }
-}
-
-fn put_no(buf: &mut [u8], at: usize, why: Why) -> usize
-    requires { at + answer_most ≤ length buf.old }
-    ensures { Put buf.old at (no_text why) result buf.new × (result ≤ at + answer_most) }
+// A refusal: its number, and the count that it names, where it names one.
+fn put_no<const N: usize>(text: &mut ArrayVec<u8, N>, why: Why)
+    requires { array_vec_len text.old + answer_most ≤ N }
+    ensures put { text.new.items ≡ text.old.items ++ no_text why }
+    ensures fits { array_vec_len text.new ≤ array_vec_len text.old + answer_most }
 {
     let code = code_of(why);
-    match need_of(why) {
-        Need::Count(n) => put_line(buf, at, b"NO", &[code, n]),
-        Need::Nothing => put_said(buf, at, b"NO", code),
+    match why {
+        Why::RoomShort(need) => put_line(text, b"NO", &[code, need]),
+        _ => put_said(text, b"NO", code),
     }
 }
 
-// How an answer is said.
-#[derive(Clone, Copy)]
-enum Saying {
-    Ok(u32),
-    Done(u32),
-    No(Why),
-}
-
-fn saying_of(answer: Answer) -> Saying
-    ensures { result ≡ saying_of answer }
+// The line of an answer.
+pub fn put_answer<const N: usize>(text: &mut ArrayVec<u8, N>, answer: Answer)
+    requires { array_vec_len text.old + answer_most ≤ N }
+    ensures put { text.new.items ≡ text.old.items ++ answer_text answer }
+    ensures fits { array_vec_len text.new ≤ array_vec_len text.old + answer_most }
 {
     match answer {
-        Answer::Opened => Saying::Ok(0),
-        Answer::Taken(n) => Saying::Ok(n),
-        Answer::Flushed(n) => Saying::Ok(n),
-        Answer::Ran(n) => Saying::Ok(n),
-        Answer::Shut => Saying::Ok(0),
-        Answer::More(n) => Saying::Ok(n),
-        Answer::Done(n) => Saying::Done(n),
-        Answer::MoreLone(n) => Saying::Ok(n),
-        Answer::DoneLone(n) => Saying::Done(n),
-        Answer::Refused(why) => Saying::No(why),
-    }
-}
-
-pub fn put_answer(buf: &mut [u8], at: usize, answer: Answer) -> usize
-    requires { at + answer_most ≤ length buf.old }
-    ensures { Put buf.old at (answer_text answer) result buf.new × (result ≤ at + answer_most) }
-{
-    match saying_of(answer) {
-        Saying::Ok(n) => put_said(buf, at, b"OK", n),
-        Saying::Done(n) => put_said(buf, at, b"DONE", n),
-        Saying::No(why) => put_no(buf, at, why),
+        Answer::Opened | Answer::Shut => put_said(text, b"OK", 0),
+        Answer::Taken(n)
+        | Answer::Flushed(n)
+        | Answer::Ran(n)
+        | Answer::More(n)
+        | Answer::MoreLone(n) => put_said(text, b"OK", n),
+        Answer::Done(n) | Answer::DoneLone(n) => put_said(text, b"DONE", n),
+        Answer::Refused(why) => put_no(text, why),
     }
 }
 
@@ -104,16 +65,8 @@ pub fn pairs_of(answer: Answer) -> u32
     ensures { result ≡ pairs_of answer }
 {
     match answer {
-        Answer::Opened => 0,
-        Answer::Taken(n) => n,
-        Answer::Flushed(_) => 0,
-        Answer::Ran(n) => n,
-        Answer::Shut => 0,
-        Answer::More(n) => n,
-        Answer::Done(n) => n,
-        Answer::MoreLone(_) => 0,
-        Answer::DoneLone(_) => 0,
-        Answer::Refused(_) => 0,
+        Answer::Taken(n) | Answer::Ran(n) | Answer::More(n) | Answer::Done(n) => n,
+        _ => 0,
     }
 }
 
@@ -122,27 +75,20 @@ fn singles_of(answer: Answer) -> u32
     ensures { result ≡ singles_of answer }
 {
     match answer {
-        Answer::Opened => 0,
-        Answer::Taken(_) => 0,
-        Answer::Flushed(_) => 0,
-        Answer::Ran(_) => 0,
-        Answer::Shut => 0,
-        Answer::More(_) => 0,
-        Answer::Done(_) => 0,
-        Answer::MoreLone(n) => n,
-        Answer::DoneLone(n) => n,
-        Answer::Refused(_) => 0,
+        Answer::MoreLone(n) | Answer::DoneLone(n) => n,
+        _ => 0,
     }
 }
 
-// A whole reply from the buffer's start: the pairs, the rows without partner, then the answer.
-pub fn put_reply(buf: &mut [u8], out: &[u32], answer: Answer) -> usize
-    requires { (reply_most (written_of answer) ≤ length buf.old) × (pairs_need (pairs_of answer) ≤ length out.now) × (singles_need (singles_of answer) ≤ length out.now) }
-    ensures { Put buf.old 0 (reply_text out.now answer) result buf.new × (result ≤ reply_most (written_of answer)) }
+// A whole reply: the pairs, the rows without partner, then the answer.
+pub fn put_reply<const N: usize>(text: &mut ArrayVec<u8, N>, out: &[u32], answer: Answer)
+    requires room { array_vec_len text.old + reply_most (written_of answer) ≤ N }
+    requires pairs { pairs_need (pairs_of answer) ≤ length out.now }
+    requires singles { singles_need (singles_of answer) ≤ length out.now }
+    ensures put { text.new.items ≡ text.old.items ++ reply_text out.now answer }
+    ensures fits { array_vec_len text.new ≤ array_vec_len text.old + reply_most (written_of answer) }
 {
-    let pairs = pairs_of(answer) as usize;
-    let singles = singles_of(answer) as usize;
-    let paired = put_lines(buf, 0, b"PAIR", out, PAIR, pairs);
-    let end = put_lines(buf, paired, b"LONE", out, SINGLE, singles);
-    put_answer(buf, end, answer)
+    put_lines(text, b"PAIR", out, PAIR, pairs_of(answer) as usize);
+    put_lines(text, b"LONE", out, SINGLE, singles_of(answer) as usize);
+    put_answer(text, answer);
 }

@@ -1,12 +1,8 @@
 -- The rows that the sheets hold are those of the accepted messages, in their order: an arrival adds its own at the end, and no call changes another.
 -- By what each change leaves. Assumes nothing.
-use mathlib.Core.Path.{◌≡◌, refl, sym, ap, ap₂, ◌∙◌}
-use mathlib.Core.Bool.{Bool, true, false, cond}
-use mathlib.Core.List.{List, [], ◌∷◌, ◌++◌, map, append-nil, append_assoc, map-append}
-use Prim.Native.Nat.{ℕ, suc, ◌≤◌}
-use native.Mathlib.Omega.{arith}
-use lib.ListN.{length}
-use borrow.Author.Tests.{lt-ltb, eq-eqb, ne_eqb}
+use Rattle.std.specs.Prelude.{Result, Ok, Err, Option, Some, None, ◌≡◌, refl, Bool, true, false, cond, List, [], ◌∷◌, ◌++◌, map, ℕ, suc, ◌≤◌, length}
+use Rattle.std.proofs.Common.{sym, ap, ap₂, ◌∙◌, append-nil, append_assoc, arith, lt-ltb, eq-eqb, ne_eqb}
+use Rattle.std.proofs.lemmas.List.{map-append}
 use Rattle.stamps.specs.Counting.{values}
 use Rattle.stamps.proofs.CountingLaws.{values_cong}
 use Rattle.stamps.specs.Keys.{item_of}
@@ -15,11 +11,13 @@ use Rattle.stamps.specs.declared.Source.{Source}
 use Rattle.stamps.specs.declared.Source.TheVariants.{A, B}
 use Rattle.stamps.specs.declared.Item.{Item}
 use Rattle.stamps.specs.declared.Message.{Message}
+use Rattle.sheets.specs.declared.rows.Victim.{Victim}
 use Rattle.sheets.specs.Layout.{Told, rows_need}
 use Rattle.sheets.specs.Rows.{flushed}
 use Rattle.sheets.proofs.Laws.{flushed_item}
 use Rattle.pairs.specs.Pairs.{Side}
 use Rattle.pairs.proofs.Changes.{items, new_row, flushed_side, stored_side}
+use Rattle.rules.specs.declared.Why.{Why}
 use Rattle.rules.specs.Answers.{refused}
 use Rattle.rules.specs.Calls.{after, arrives, joins, evicts, tries, runs, drains, lists, effect, settle, after_call}
 use Rattle.rules.specs.Demand3.{after_calls, offered, accepted, items_of}
@@ -28,10 +26,6 @@ use Rattle.rules.specs.World.{World, same, count_of, sheet_of, side_of, flush, s
 use Rattle.rules.specs.declared.Call.{Call}
 use Rattle.rules.specs.declared.Call.TheVariants.{Arrive, Evict, Run, Close, Drain, Lone}
 use Rattle.rules.specs.declared.Answer.TheVariants.{Ran}
-use Rattle.rules.specs.declared.Verdict.{Verdict}
-use Rattle.rules.specs.declared.Verdict.TheVariants.{Good, No}
-use Rattle.rules.specs.declared.Room.{Room}
-use Rattle.rules.specs.declared.Room.TheVariants.{Enough, Flush}
 use Rattle.rules.proofs.Fitting.{rows_fit}
 use Rattle.rules.proofs.Laws.{accepts}
 use Rattle.rules.proofs.Seen.{both_sources, same_own, same_facing, flush-seen, store-seen}
@@ -68,9 +62,9 @@ module _ (w : World) (l : List Told) (c : Lent) (g : Sits w l) (u : Source) wher
   unchanged : (w' : World) → items_of w' u ≡ items_of w u → Adds w' []
   unchanged w' e = e ∙ sym (append-nil (items_of w u))
 
-  room_items : (room : Room) → items_of (make_room room w) u ≡ items_of w u
-  room_items Enough = refl
-  room_items (Flush s q) = flush-items s q w (rows_fit w g.fit s) u
+  room_items : (room : Option Victim) → items_of (make_room room w) u ≡ items_of w u
+  room_items None = refl
+  room_items (Some v) = flush-items v.source v.part w (rows_fit w g.fit v.source) u
 
   run_items : (s : Source) (q : ℕ) → Adds (effect (Run s q) w c).world []
   unfolding effect runs note
@@ -88,7 +82,7 @@ module _ (w : World) (l : List Told) (c : Lent) (g : Sits w l) (u : Source) wher
       go A = both_sources (λ u. items_of (shut A w) u ≡ items_of w u) A refl refl u
       go B = both_sources (λ u. items_of (shut B w) u ≡ items_of w u) B refl refl u
 
-  effect_items : (k : Call) → verdict (own_checks k w c) ≡ Good → Adds (effect k w c).world (offered u k)
+  effect_items : (k : Call) → verdict (own_checks k w c) ≡ Ok tt → Adds (effect k w c).world (offered u k)
   unfolding effect arrives joins evicts drains move lists pass
   effect_items (Arrive s m) h = store-items s (item_of m) (make_room (room_for w) w) (row-space w l c g s m h) u ∙ ap₂ (λ (k j : List Item). k ++ j) (room_items (room_for w)) (own (same s u))
     where
@@ -105,9 +99,9 @@ module _ (w : World) (l : List Told) (c : Lent) (g : Sits w l) (u : Source) wher
   unfolding after_call
   call_items = go (verdict (checks w c)) refl
     where
-      go : (v : Verdict) → verdict (checks w c) ≡ v → let r = settle v w c.out (effect c.call w c) in Adds r.world (cond (refused r.answer) [] (offered u c.call))
-      go Good e = effect_items c.call (verdict_rest _ _ e) ∙ ap (λ (v : Bool). items_of w u ++ map item_of (cond v [] (offered u c.call))) (sym (accepts c.call w c))
-      go (No y) e = unchanged w refl
+      go : (v : Result Unit Why) → verdict (checks w c) ≡ v → let r = settle v w c.out (effect c.call w c) in Adds r.world (cond (refused r.answer) [] (offered u c.call))
+      go (Ok tt) e = effect_items c.call (verdict_rest _ _ e) ∙ ap (λ (v : Bool). items_of w u ++ map item_of (cond v [] (offered u c.call))) (sym (accepts c.call w c))
+      go (Err y) e = unchanged w refl
 
 pub calls_accept : (w : World) (l : List Told) (cs : List Lent) → Sits w l → (s : Source) → items_of (after_calls w l cs).world s ≡ items_of w s ++ map item_of (accepted s w cs)
 calls_accept w l [] g s = sym (append-nil (items_of w s))

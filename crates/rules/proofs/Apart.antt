@@ -1,30 +1,25 @@
 -- Lone calls and the others do not disturb each other: neither looks at the positions of the other, and what it leaves alone stays.
 -- By one law about calls that see a part of the box only. Assumes nothing.
-use mathlib.Core.Path.{◌≡◌, refl, sym, ap, ap₂, ◌∙◌, subst}
-use mathlib.Core.Bool.{Bool, true, false, cond, not, ◌||◌, true≢false, false≢true}
-use mathlib.Core.List.{List, [], ◌∷◌, ◌++◌}
-use Prim.Native.Nat.{ℕ, ◌≤◌}
-use native.Mathlib.Omega.{arith}
-use lib.ListN.{length}
+use Rattle.std.specs.Prelude.{Result, Ok, Err, Option, Some, None, ◌≡◌, refl, Bool, true, false, cond, not, ◌||◌, List, [], ◌∷◌, ◌++◌, ℕ, ◌≤◌, length}
+use Rattle.std.proofs.Common.{sym, ap, ap₂, ◌∙◌, subst, true≢false, arith}
+use Rattle.std.proofs.lemmas.Bool.{false≢true}
 use Rattle.stamps.specs.Keys.{item_of}
-use Rattle.stamps.specs.Sources.{other}
+use Rattle.stamps.specs.Sources.{put, other}
 use Rattle.stamps.specs.declared.Source.{Source}
 use Rattle.stamps.specs.declared.Source.TheVariants.{A, B}
 use Rattle.stamps.specs.declared.Item.{Item}
+use Rattle.stamps.specs.declared.PerSource.{PerSource}
+use Rattle.sheets.specs.declared.rows.Victim.{Victim}
 use Rattle.sheets.specs.Layout.{Told, room_of}
+use Rattle.rules.specs.declared.Why.{Why}
 use Rattle.rules.specs.Calls.{After, after, joins, arrives, evicts, tries, runs, drains, lists, effect, settle, after_call}
 use Rattle.rules.specs.Demand3.{wrote}
 use Rattle.rules.specs.Lone.{asks, Heard, heard_of, heard, only, others}
 use Rattle.rules.specs.Refusals.{verdict, both_closed, room_for, make_room, arrived, idle, row_checks, room_check, checks, own_checks}
-use Rattle.rules.specs.World.{World, pick, same, count_of, with_lone, with_place, flush, store, note, shut, move, pass, world, with_call, Lent}
-use Rattle.rules.specs.declared.Places.{Places}
+use Rattle.rules.specs.World.{World, pick, same, count_of, with_lone, flush, store, note, shut, move, pass, world, with_call, Lent}
 use Rattle.rules.specs.declared.Call.{Call}
 use Rattle.rules.specs.declared.Call.TheVariants.{Arrive, Evict, Run, Close, Drain, Lone}
 use Rattle.rules.specs.declared.Answer.TheVariants.{Ran}
-use Rattle.rules.specs.declared.Verdict.{Verdict}
-use Rattle.rules.specs.declared.Verdict.TheVariants.{Good, No}
-use Rattle.rules.specs.declared.Room.{Room}
-use Rattle.rules.specs.declared.Room.TheVariants.{Enough, Flush}
 use Rattle.rules.proofs.Fitting.{Fit, positioned, fit_positions, place-within, fits_hold}
 use Rattle.rules.proofs.Seen.{both_sources, same_eq}
 use Rattle.rules.proofs.Settling.{verdict_first, verdict_rest}
@@ -100,41 +95,27 @@ verdict-passed w c f = rw (fits_hold w f)
 
 -- ---- other positions of the lone calls
 
-abbrev pub placed : Places → World → World
+abbrev pub placed : PerSource ℕ → World → World
 placed p w = world (with_lone p w.session) w.sheets
 
-module _ (p : Places) where
+module _ (p : PerSource ℕ) where
   -- in what a call leaves
   abbrev placed_after : After → After
   placed_after r = after r.answer (placed p r.world) r.out
 
-  placed_flush : (s : Source) (q : ℕ) (w : World) → flush s q (placed p w) ≡ placed p (flush s q w)
+  placed_room : (room : Option Victim) (w : World) → make_room room (placed p w) ≡ placed p (make_room room w)
   unfolding flush
-  placed_flush A q w = refl
-  placed_flush B q w = refl
-
-  placed_store : (s : Source) (item : Item) (w : World) → store s item (placed p w) ≡ placed p (store s item w)
-  unfolding store
-  placed_store A item w = refl
-  placed_store B item w = refl
-
-  placed_shut : (s : Source) (w : World) → shut s (placed p w) ≡ placed p (shut s w)
-  unfolding shut
-  placed_shut A w = refl
-  placed_shut B w = refl
-
-  placed_room : (room : Room) (w : World) → make_room room (placed p w) ≡ placed p (make_room room w)
-  placed_room Enough w = refl
-  placed_room (Flush s q) w = placed_flush s q w
+  placed_room None w = refl
+  placed_room (Some v) w = refl
 
   placed_joins : (s : Source) (item : Item) (w : World) (o : List ℕ) → joins s item (placed p w) o ≡ placed_after (joins s item w o)
-  unfolding joins
-  placed_joins s item w o = ap (λ (v : World). after (joins s item w o).answer v (joins s item w o).out) (placed_store s item w)
+  unfolding joins store
+  placed_joins s item w o = refl
 
   placed_effect : (k : Call) (w : World) (c : Lent) → others k ≡ true → effect k (placed p w) c ≡ placed_after (effect k w c)
-  unfolding effect arrives room_for evicts runs note drains move
+  unfolding effect arrives room_for evicts flush runs note shut drains move
   placed_effect (Arrive s m) w c h = ap (λ (v : World). joins s (item_of m) v c.out) (placed_room (room_for w) w) ∙ placed_joins s (item_of m) (make_room (room_for w) w) c.out
-  placed_effect (Evict s q) w c h = ap (λ (v : World). after (evicts s q w c.out).answer v c.out) (placed_flush s q w)
+  placed_effect (Evict s q) w c h = refl
   placed_effect (Run s q) w c h = go (idle w s q)
     where
       o : List ℕ
@@ -143,7 +124,7 @@ module _ (p : Places) where
       go : (u : Bool) → cond u (after (Ran 0) (placed p w) o) (tries s q (placed p w) o) ≡ placed_after (cond u (after (Ran 0) w o) (tries s q w o))
       go true = refl
       go false = refl
-  placed_effect (Close s) w c h = ap (λ (v : World). after (effect (Close s) w c).answer v c.out) (placed_shut s w)
+  placed_effect (Close s) w c h = refl
   placed_effect Drain w c h = refl
   placed_effect (Lone A) w c h = absurd (false≢true h)
   placed_effect (Lone B) w c h = absurd (false≢true h)
@@ -166,18 +147,18 @@ module _ (p : Places) where
   unfolding after_call
   placed_call w c f f' h = rw (placed_checks w c f f') (go (verdict (checks w c)))
     where
-      go : (v : Verdict) → settle v (placed p w) c.out (effect c.call (placed p w) c) ≡ placed_after (settle v w c.out (effect c.call w c))
-      go Good = placed_effect c.call w c h
-      go (No y) = refl
+      go : (v : Result Unit Why) → settle v (placed p w) c.out (effect c.call (placed p w) c) ≡ placed_after (settle v w c.out (effect c.call w c))
+      go (Ok tt) = placed_effect c.call w c h
+      go (Err y) = refl
 
 -- no other call moves them
 pub own_places : (w : World) (c : Lent) → others c.call ≡ true → (after_call w c).world.session.lone ≡ w.session.lone
 unfolding after_call
 own_places w c h = go (verdict (checks w c))
   where
-    go : (v : Verdict) → (settle v w c.out (effect c.call w c)).world.session.lone ≡ w.session.lone
-    go Good = ap (λ (r : After). r.world.session.lone) (placed_effect w.session.lone c.call w c h)
-    go (No y) = refl
+    go : (v : Result Unit Why) → (settle v w c.out (effect c.call w c)).world.session.lone ≡ w.session.lone
+    go (Ok tt) = ap (λ (r : After). r.world.session.lone) (placed_effect w.session.lone c.call w c h)
+    go (Err y) = refl
 
 -- ---- the other calls, with and without lone ones
 
@@ -190,7 +171,7 @@ settled-call : (w : World) (c : Lent) → Settled w → Settled (after_call w c)
 settled-call w c g = record { written = g.written ++ wrote (after_call w c); sits = sits-call w g.written c g.sits }
 
 -- no lone call has begun
-abbrev start : Places
+abbrev start : PerSource ℕ
 start = record { a = 0; b = 0 }
 
 fit-start : (w : World) → Fit w → Fit (placed start w)
@@ -201,9 +182,9 @@ pub lone-leaves : (w : World) (c : Lent) (s : Source) → placed start (after_ca
 unfolding after_call effect lists pass
 lone-leaves w c s = go (verdict (checks w (with_call (Lone s) c)))
   where
-    go : (v : Verdict) → placed start (settle v w c.out (lists s w c.out)).world ≡ placed start w
-    go Good = refl
-    go (No y) = refl
+    go : (v : Result Unit Why) → placed start (settle v w c.out (lists s w c.out)).world ≡ placed start w
+    go (Ok tt) = refl
+    go (Err y) = refl
 
 pub others-heard : (w : World) → Settled w → (cs : List Lent) → heard others w cs ≡ heard others w (only others cs)
 others-heard w g cs = heard_only others (placed start) Settled settled-call sees leaves cs w w g g refl
@@ -220,10 +201,10 @@ others-heard w g cs = heard_only others (placed start) Settled settled-call sees
 
 -- the drain position and that of the other source set back
 abbrev pub view_of : Source → World → World
-view_of s w = positioned 0 (with_place (other s) 0 w.session.lone) w
+view_of s w = positioned 0 (put (other s) 0 w.session.lone) w
 
 fit_view : (s : Source) (w : World) → Fit w → Fit (view_of s w)
-fit_view s w f = fit_positions 0 (with_place (other s) 0 w.session.lone) w f (omega arith) (place-within (other s) 0 w f (omega arith))
+fit_view s w f = fit_positions 0 (put (other s) 0 w.session.lone) w f (omega arith) (place-within (other s) 0 w f (omega arith))
 
 -- once both are closed, nothing but a drain or a lone call does anything
 module _ (w : World) (c : Lent) (h : both_closed w.session ≡ true) where
@@ -235,7 +216,7 @@ module _ (w : World) (c : Lent) (h : both_closed w.session ≡ true) where
   unfolding after_call own_checks effect drains move lists pass
   closed-leaves s e = go (verdict (checks w c)) refl
     where
-      acts : (k : Call) → asks s k ≡ false → verdict (own_checks k w c) ≡ Good → view_of s (effect k w c).world ≡ view_of s w
+      acts : (k : Call) → asks s k ≡ false → verdict (own_checks k w c) ≡ Ok tt → view_of s (effect k w c).world ≡ view_of s w
       acts (Arrive v m) e g = ap (view_of s) (halted _ (closed_of_lem w h v) (verdict_first _ _ (verdict_rest _ _ g)) (effect (Arrive v m) w c))
       acts (Evict v q) e g = ap (view_of s) (halted _ h (verdict_first _ _ (verdict_rest _ _ g)) (effect (Evict v q) w c))
       acts (Run v q) e g = ap (view_of s) (halted _ h (verdict_first _ _ (verdict_rest _ _ g)) (effect (Run v q) w c))
@@ -249,9 +230,9 @@ module _ (w : World) (c : Lent) (h : both_closed w.session ≡ true) where
           passes B A e = refl
           passes B B e = absurd (true≢false e)
 
-      go : (v : Verdict) → verdict (checks w c) ≡ v → view_of s (settle v w c.out (effect c.call w c)).world ≡ view_of s w
-      go Good g = acts c.call e (verdict_rest _ _ g)
-      go (No y) g = refl
+      go : (v : Result Unit Why) → verdict (checks w c) ≡ v → view_of s (settle v w c.out (effect c.call w c)).world ≡ view_of s w
+      go (Ok tt) g = acts c.call e (verdict_rest _ _ g)
+      go (Err y) g = refl
 
 closed_stays : (w : World) (c : Lent) → both_closed w.session ≡ true → both_closed (after_call w c).world.session ≡ true
 closed_stays w c h = by_kind (λ c. both_closed (after_call w c).world.session ≡ true)
@@ -270,11 +251,11 @@ view_sees s w c f = rw (view_checks s w c f) (go (verdict (checks w (with_call (
     o : List ℕ
     o = c.out
 
-    go : (v : Verdict) (s : Source) → Alike (view_of s) (settle v w c.out (lists s w o)) (settle v (view_of s w) c.out (lists s (view_of s w) o))
-    go Good A = record { heard = refl; seen = refl }
-    go Good B = record { heard = refl; seen = refl }
-    go (No y) A = record { heard = refl; seen = refl }
-    go (No y) B = record { heard = refl; seen = refl }
+    go : (v : Result Unit Why) (s : Source) → Alike (view_of s) (settle v w c.out (lists s w o)) (settle v (view_of s w) c.out (lists s (view_of s w) o))
+    go (Ok tt) A = record { heard = refl; seen = refl }
+    go (Ok tt) B = record { heard = refl; seen = refl }
+    go (Err y) A = record { heard = refl; seen = refl }
+    go (Err y) B = record { heard = refl; seen = refl }
 
 pub record Closed (w : World) : Type 0 where
   pub settled : Settled w

@@ -1,15 +1,12 @@
 -- Demand 3 holds after an accepted opening and any list of calls: from what holds between calls, by induction over the calls.
 -- Assumes nothing.
-use mathlib.Core.Path.{◌≡◌, refl, sym, ap, ◌∙◌, subst}
-use mathlib.Core.Bool.{Bool, true, false, cond, ◌&&◌, ◌||◌, or-true}
-use mathlib.Core.List.{List, [], ◌∷◌, ◌++◌, map}
-use Prim.Native.Nat.{ℕ, ◌*◌, ◌≤◌, ◌<◌}
-use native.Mathlib.Omega.{arith}
-use lib.Dec.{ltb}
-use lib.ListN.{length, drop, length-map}
-use borrow.Author.Tests.{lt-ltb}
+use Rattle.std.specs.Prelude.{Result, Ok, Err, ◌≡◌, refl, Bool, true, false, cond, ◌&&◌, ◌||◌, List, [], ◌∷◌, ◌++◌, map, ℕ, ◌*◌, ◌≤◌, ◌<◌, ltb, length, drop}
+use Rattle.std.proofs.lemmas.Bool.{and_parts}
+use Rattle.std.proofs.Common.{sym, ap, ◌∙◌, subst, arith, lt-ltb}
+use Rattle.std.proofs.Math.Bool.{or-true}
+use Rattle.std.proofs.Math.ListN.{length-map}
 use Rattle.stamps.specs.Counting.{bit}
-use Rattle.stamps.proofs.CountingLaws.{both, half_le}
+use Rattle.stamps.proofs.CountingLaws.{half_le}
 use Rattle.stamps.specs.Keys.{item_of, items_match}
 use Rattle.stamps.specs.Stamps.{in_memory}
 use Rattle.stamps.proofs.StampsLaws.{done_memory}
@@ -21,6 +18,7 @@ use Rattle.sheets.proofs.LayoutLaws.{shown_own}
 use Rattle.pairs.specs.Joins.{inside, numbers, is_pair, times}
 use Rattle.pairs.specs.Pairs.{position, tell_of, told, done}
 use Rattle.pairs.proofs.Rises.{missing-owed, drain-parts, owed-after, position-inside}
+use Rattle.rules.specs.declared.Why.{Why}
 use Rattle.rules.specs.Answers.{code_of}
 use Rattle.rules.specs.Calls.{After, owed, drains, effect, settle, after_call, opens}
 use Rattle.rules.specs.Rounds.{Handed, saying_at}
@@ -31,8 +29,6 @@ use Rattle.rules.specs.declared.Call.{Call}
 use Rattle.rules.specs.declared.Call.TheVariants.{Arrive, Evict, Run, Close, Drain, Lone}
 use Rattle.rules.specs.declared.Why.TheVariants.{BadSheet}
 use Rattle.rules.specs.declared.Answer.TheVariants.{Opened, More, Done, Refused}
-use Rattle.rules.specs.declared.Verdict.{Verdict}
-use Rattle.rules.specs.declared.Verdict.TheVariants.{Good, No}
 use Rattle.rules.proofs.Accepted.{calls_accept}
 use Rattle.rules.proofs.Fitting.{Fit, fits_hold, fit-move}
 use Rattle.rules.proofs.Laps.{of_one_lap}
@@ -89,7 +85,7 @@ module _ (w : World) (o : List ℕ) where
   -- the last one, after which all are written
   last_drained : (n : ℕ) → (drains w o).answer ≡ Done n → ltb room (length (owed w)) ≡ false
   unfolding drains
-  last_drained = said_last More Done (λ m n h. let z : ◌≡◌ {A = ℕ} 0 1 = cc in omega arith) room (owed w)
+  last_drained = said_last More Done (λ m n h. cc) room (owed w)
 
   whole_drained : ltb room (length (owed w)) ≡ false → (x : Told) → bit (is_out (drains w o).world x) ≡ owes w x
   unfolding drains move
@@ -97,7 +93,7 @@ module _ (w : World) (o : List ℕ) where
     where
       go : (u : Bool) → is_pair (seen_from A w) x ≡ u → bit (u && (done (seen_from A w) (numbers x) || ltb (position (seen_from A w) (numbers x)) (count_of w A * count_of w B))) ≡ bit u
       go false h = refl
-      go true h = rw (lt-ltb _ _ (position-inside (seen_from A w) (numbers x) (both (inside (seen_from A w) (numbers x)) _ h).0), or-true)
+      go true h = rw (lt-ltb _ _ (position-inside (seen_from A w) (numbers x) (and_parts (inside (seen_from A w) (numbers x)) _ h).0), or-true)
 
 -- ---- e: after Done, and number 1
 
@@ -105,25 +101,25 @@ whole_now : (w : World) (l : List Told) → Sits w l → (o : List ℕ) (n : ℕ
 unfolding after_call effect
 whole_now w l g o n e x = (sits-call w l (given Drain o) g).sound.tells x ∙ go (verdict (checks w (given Drain o))) e
   where
-    go : (v : Verdict) → let r = settle v w o (drains w o) in r.answer ≡ Done n → bit (is_out r.world x) ≡ owes w x
-    go Good h = whole_drained w o (last_drained w o n h) x
-    go (No y) h = let z : ◌≡◌ {A = ℕ} 0 1 = cc in absurd (omega arith)
+    go : (v : Result Unit Why) → let r = settle v w o (drains w o) in r.answer ≡ Done n → bit (is_out r.world x) ≡ owes w x
+    go (Ok tt) h = whole_drained w o (last_drained w o n h) x
+    go (Err y) h = cc
 
 -- checks that do not give number 1
 abbrev Others : List Check → Type 0
 Others [] = Unit
 Others (c ∷ cs) = (code_of c.why ≡ 1 → ⊥) × Others cs
 
-never : (cs : List Check) → Others cs → verdict cs ≡ No BadSheet → ⊥
+never : (cs : List Check) → Others cs → verdict cs ≡ Err BadSheet → ⊥
 unfolding verdict
-never [] h e = let z : ◌≡◌ {A = ℕ} 0 1 = cc in omega arith
+never [] h e = cc
 never (c ∷ cs) h e = go c.fails (never cs h.1) e
   where
-    go : (u : Bool) → (verdict cs ≡ No BadSheet → ⊥) → cond u (No c.why) (verdict cs) ≡ No BadSheet → ⊥
+    go : (u : Bool) → (verdict cs ≡ Err BadSheet → ⊥) → cond u (Err c.why) (verdict cs) ≡ Err BadSheet → ⊥
     go true ih e = h.0 (let z : c.why ≡ BadSheet = cc in ap code_of z)
     go false ih e = ih e
 
-never_first : (c : Check) (cs : List Check) → c.fails ≡ false → Others cs → verdict (c ∷ cs) ≡ No BadSheet → ⊥
+never_first : (c : Check) (cs : List Check) → c.fails ≡ false → Others cs → verdict (c ∷ cs) ≡ Err BadSheet → ⊥
 unfolding verdict
 never_first c cs f h e = never cs h (rw f at e)
 

@@ -1,27 +1,20 @@
 -- A session that nobody else altered passes number 1 at every call: its clock is at most its accepted rows and those that left memory.
 -- By what each change leaves. Assumes nothing.
-use mathlib.Core.Path.{◌≡◌, refl, sym, ap, ◌∙◌, subst}
-use mathlib.Core.Bool.{Bool, true, false}
-use mathlib.Core.List.{List}
-use Prim.Native.Nat.{ℕ, zero, suc, ◌+◌, ◌*◌, ◌≤◌, ◌<◌}
-use native.Mathlib.Nat.{le_refl}
-use native.Mathlib.Omega.{arith}
-use lib.Dec.{eqb}
-use lib.ListN.{length, get_or, set}
-use lib.Seq.{get_or-set_same, get_or-set_other}
-use borrow.Author.Tests.{le-leb, eqb-true}
-use Rattle.stamps.proofs.CountingLaws.{tests, eqb_ne}
-use Rattle.stamps.specs.Sources.{other}
+use Rattle.std.specs.Prelude.{◌≡◌, refl, Bool, true, false, List, ℕ, zero, suc, ◌+◌, ◌*◌, ◌≤◌, ◌<◌, eqb, length, get_or, set}
+use Rattle.std.proofs.lemmas.Bool.{eqb-false}
+use Rattle.std.proofs.Common.{sym, ap, ◌∙◌, subst, le_refl, arith, get_or-set_same, get_or-set_other, le-leb, eqb-true}
+use Rattle.stamps.proofs.CountingLaws.{tests}
+use Rattle.stamps.specs.Sources.{put, other}
 use Rattle.stamps.specs.declared.Source.{Source}
 use Rattle.stamps.specs.declared.Source.TheVariants.{A, B}
 use Rattle.stamps.specs.declared.Item.{Item}
+use Rattle.stamps.specs.declared.PerSource.{PerSource}
 use Rattle.sheets.specs.Layout.{rows_need, probe_need, list_no}
 use Rattle.sheets.proofs.Laws.{length_list}
 use Rattle.pairs.specs.Pairs.{Side}
 use Rattle.pairs.proofs.Changes.{memory_of, flush_memory, store_memory}
 use Rattle.rules.specs.Refusals.{counts_fit, session_fits}
-use Rattle.rules.specs.World.{World, pick, count_of, sheet_of, place_of, side_of, with_next, with_lone, with_place, flush, store, note, shut, move, pass, world}
-use Rattle.rules.specs.declared.Places.{Places}
+use Rattle.rules.specs.World.{World, pick, count_of, sheet_of, place_of, side_of, with_next, with_lone, flush, store, note, shut, move, pass, world}
 use Rattle.rules.proofs.Seen.{both_sources, Extent, extent, Seen, flush-seen, store-seen, Listable, note-seen}
 use Rattle.rules.proofs.Checks.{Sizes}
 
@@ -89,25 +82,17 @@ fit_change s w w' c d n f z grows few clock short = let e = n.same_extent in let
     }
   where
     place : (u : Source) → place_of w' u ≡ place_of w u
-    place u = ap (λ (p : Places). pick u p.a p.b) n.same_lone
+    place u = ap (λ (p : PerSource ℕ). pick u p.a p.b) n.same_lone
 
 pub fit-flush : (s : Source) (q : ℕ) (w : World) → Fit w → w.session.next ≡ 0 → Fit (flush s q w)
 unfolding flush
 fit-flush s q w f z = fit_change s w (flush s q w) _ _ (flush-seen s q w (rows_fit w f s)) f z (le_refl (count_of w s)) (f.few s)
-    (omega (arith, flush_memory w.session.parts q w.session.clock (side_of w s))) (counts s)
-  where
-    counts : (s : Source) (k : ℕ) → k < 2 * w.session.parts → get_or (flush s q w).session.counts k 0 ≤ 32
-    counts A = f.short
-    counts B = f.short
+    (omega (arith, flush_memory w.session.parts q w.session.clock (side_of w s))) f.short
 
 pub fit-store : (s : Source) (item : Item) (w : World) → Fit w → w.session.next ≡ 0 → count_of w s < w.session.limit → Fit (store s item w)
 unfolding store
 fit-store s item w f z h = fit_change s w (store s item w) _ _ (store-seen s item w (row_fits w f s h)) f z (omega arith) h
-    (omega (arith, store_memory item w.session.clock (side_of w s))) (counts s)
-  where
-    counts : (s : Source) (k : ℕ) → k < 2 * w.session.parts → get_or (store s item w).session.counts k 0 ≤ 32
-    counts A = f.short
-    counts B = f.short
+    (omega (arith, store_memory item w.session.clock (side_of w s))) f.short
 
 -- the portion's list is not full
 pub listable : (s : Source) (q : ℕ) (w : World) → Fit w → q < w.session.parts → length ((side_of w s).list q) < 32 → Listable s q w
@@ -128,7 +113,7 @@ fit-note s q last w f z n = fit_change s w (note s q last w) _ _ (note-seen s q 
 
     go : (k : ℕ) → k < 2 * w.session.parts → (u : Bool) → eqb k no ≡ u → get_or (set w.session.counts no (suc (get_or w.session.counts no 0))) k 0 ≤ 32
     go k h true e = rw (eqb-true k no e, get_or-set_same w.session.counts no (suc (get_or w.session.counts no 0)) 0 (omega (arith, tests, n.counted))) n.free
-    go k h false e = rw (get_or-set_other w.session.counts no k (suc (get_or w.session.counts no 0)) 0 (eqb_ne k no e)) (f.short k h)
+    go k h false e = rw (get_or-set_other w.session.counts no k (suc (get_or w.session.counts no 0)) 0 (eqb-false k no e)) (f.short k h)
 
 pub fit-shut : (s : Source) (w : World) → Fit w → Fit (shut s w)
 unfolding shut
@@ -152,10 +137,10 @@ fit-shut B w f = record {
 }
 
 -- other positions
-abbrev pub positioned : ℕ → Places → World → World
+abbrev pub positioned : ℕ → PerSource ℕ → World → World
 positioned k p w = world (with_next k (with_lone p w.session)) w.sheets
 
-pub fit_positions : (k : ℕ) (p : Places) (w : World) → Fit w → k ≤ count_of w A * count_of w B → ((s : Source) → pick s p.a p.b ≤ count_of w s) → Fit (positioned k p w)
+pub fit_positions : (k : ℕ) (p : PerSource ℕ) (w : World) → Fit w → k ≤ count_of w A * count_of w B → ((s : Source) → pick s p.a p.b ≤ count_of w s) → Fit (positioned k p w)
 fit_positions k p w f h b = record { sizes = f.sizes; few = f.few; clock = f.clock; next = h; lone = b; counted = f.counted; short = f.short }
 
 pub fit-move : (k : ℕ) (w : World) → Fit w → k ≤ count_of w A * count_of w B → Fit (move k w)
@@ -163,7 +148,7 @@ unfolding move
 fit-move k w f h = fit_positions k w.session.lone w f h f.lone
 
 -- one of the lone positions moved within its rows
-pub place-within : (s : Source) (k : ℕ) (w : World) → Fit w → k ≤ count_of w s → (u : Source) → let p = with_place s k w.session.lone in pick u p.a p.b ≤ count_of w u
+pub place-within : (s : Source) (k : ℕ) (w : World) → Fit w → k ≤ count_of w s → (u : Source) → let p = put s k w.session.lone in pick u p.a p.b ≤ count_of w u
 place-within A k w f h A = h
 place-within A k w f h B = f.lone B
 place-within B k w f h A = f.lone A
@@ -171,7 +156,7 @@ place-within B k w f h B = h
 
 pub fit-pass : (s : Source) (k : ℕ) (w : World) → Fit w → k ≤ count_of w s → Fit (pass s k w)
 unfolding pass
-fit-pass s k w f h = fit_positions w.session.next (with_place s k w.session.lone) w f f.next (place-within s k w f h)
+fit-pass s k w f h = fit_positions w.session.next (put s k w.session.lone) w f f.next (place-within s k w f h)
 
 -- ---- number 1
 
@@ -192,11 +177,11 @@ fits_hold w f = let t = w.session in let z = f.sizes in
       le-leb (rows_need t.limit) (length w.sheets.a) z.a_long,
       le-leb (rows_need t.limit) (length w.sheets.b) z.b_long,
       le-leb (probe_need t.parts) (length w.sheets.probe) z.probe_long,
-      le-leb t.a.rows t.limit (f.few A),
-      le-leb t.b.rows t.limit (f.few B),
+      le-leb t.feeds.a.rows t.limit (f.few A),
+      le-leb t.feeds.b.rows t.limit (f.few B),
       le-leb t.clock 16384 (omega (arith, f.clock, f.few A, f.few B, z.limit)),
-      le-leb t.next (t.a.rows * t.b.rows) f.next,
-      le-leb t.lone.a t.a.rows (f.lone A),
-      le-leb t.lone.b t.b.rows (f.lone B),
+      le-leb t.next (t.feeds.a.rows * t.feeds.b.rows) f.next,
+      le-leb t.lone.a t.feeds.a.rows (f.lone A),
+      le-leb t.lone.b t.feeds.b.rows (f.lone B),
     )
     (counts_hold t.counts (2 * t.parts) f.short)

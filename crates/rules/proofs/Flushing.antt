@@ -1,9 +1,7 @@
 -- What a flush leaves: the record but for its clock, the other source, and of its own the rows but for their DTS. For all that does not open `flush`.
 -- By the laws of the sheets. Assumes nothing.
-use mathlib.Core.Path.{◌≡◌, refl, ap, ◌∙◌}
-use Prim.Native.Nat.{ℕ, ◌+◌, ◌≤◌, ◌<◌}
-use lib.ListN.{length}
-use borrow.Author.Tests.{lt-ltb}
+use Rattle.std.specs.Prelude.{◌≡◌, refl, ℕ, ◌+◌, ◌≤◌, ◌<◌, length}
+use Rattle.std.proofs.Common.{ap, ◌∙◌, lt-ltb}
 use Rattle.stamps.specs.Counting.{up_to}
 use Rattle.stamps.proofs.CountingLaws.{tally_le, length-kept}
 use Rattle.stamps.specs.Sources.{other}

@@ -1,13 +1,9 @@
 -- Two rows match exactly if their messages are of one lap: every accepted message is in range, and row i is of the i-th.
 -- By induction over the calls. Assumes nothing.
-use mathlib.Core.Path.{◌≡◌, refl, sym, ap, ◌∙◌}
-use mathlib.Core.Bool.{Bool, true, false, cond}
-use mathlib.Core.List.{List, [], ◌∷◌, ◌++◌, map}
-use mathlib.Core.Logic.{◌↔◌}
-use Prim.Native.Nat.{ℕ, zero, suc, ◌<◌}
-use native.Mathlib.Omega.{arith}
-use lib.ListN.{length, get_or, length-map, get_or-map}
-use borrow.Author.Tests.{not-false}
+use Rattle.std.specs.Prelude.{Result, Ok, Err, ◌≡◌, refl, Bool, true, false, cond, List, [], ◌∷◌, ◌++◌, map, ◌↔◌, ℕ, zero, suc, ◌<◌, length, get_or}
+use Rattle.std.proofs.Common.{sym, ap, ◌∙◌, arith}
+use Rattle.std.proofs.Math.ListN.{length-map, get_or-map}
+use Rattle.std.proofs.lemmas.Bool.{not-false}
 use Rattle.stamps.proofs.CountingLaws.{Each, length-values, values-at}
 use Rattle.stamps.specs.Keys.{in_range, item_of, items_match}
 use Rattle.stamps.proofs.KeysLaws.{match_same}
@@ -15,6 +11,7 @@ use Rattle.stamps.specs.declared.Source.{Source}
 use Rattle.stamps.specs.declared.Source.TheVariants.{A, B}
 use Rattle.stamps.specs.declared.Item.{Item}
 use Rattle.stamps.specs.declared.Message.{Message}
+use Rattle.rules.specs.declared.Why.{Why}
 use Rattle.rules.specs.Answers.{refused}
 use Rattle.rules.specs.Calls.{effect, settle, after_call}
 use Rattle.rules.specs.Demand3.{offered, accepted, items_of}
@@ -22,8 +19,6 @@ use Rattle.rules.specs.Refusals.{verdict, checks, own_checks}
 use Rattle.rules.specs.World.{World, same, count_of, rows_of, Lent}
 use Rattle.rules.specs.declared.Call.{Call}
 use Rattle.rules.specs.declared.Call.TheVariants.{Arrive, Evict, Run, Close, Drain, Lone}
-use Rattle.rules.specs.declared.Verdict.{Verdict}
-use Rattle.rules.specs.declared.Verdict.TheVariants.{Good, No}
 use Rattle.rules.proofs.Laws.{accepts}
 use Rattle.rules.proofs.Settling.{verdict_first, verdict_rest}
 
@@ -43,7 +38,7 @@ ranged-at (m ∷ l) h zero d b = h.0
 ranged-at (m ∷ l) h (suc i) d b = ranged-at l h.1 i d (omega arith)
 
 module _ (s : Source) (w : World) (c : Lent) where
-  offered_ranged : (k : Call) → verdict (own_checks k w c) ≡ Good → Ranged (offered s k)
+  offered_ranged : (k : Call) → verdict (own_checks k w c) ≡ Ok tt → Ranged (offered s k)
   unfolding own_checks
   offered_ranged (Arrive v m) h = own (same v s)
     where
@@ -60,9 +55,9 @@ module _ (s : Source) (w : World) (c : Lent) where
   unfolding after_call
   call_ranged = go (verdict (checks w c)) refl
     where
-      go : (v : Verdict) → verdict (checks w c) ≡ v → Ranged (cond (refused (settle v w c.out (effect c.call w c)).answer) [] (offered s c.call))
-      go Good e = rw (accepts c.call w c) (offered_ranged c.call (verdict_rest _ _ e))
-      go (No y) e = tt
+      go : (v : Result Unit Why) → verdict (checks w c) ≡ v → Ranged (cond (refused (settle v w c.out (effect c.call w c)).answer) [] (offered s c.call))
+      go (Ok tt) e = rw (accepts c.call w c) (offered_ranged c.call (verdict_rest _ _ e))
+      go (Err y) e = tt
 
 accepted-ranged : (s : Source) (w : World) (cs : List Lent) → Ranged (accepted s w cs)
 accepted-ranged s w [] = tt

@@ -1,17 +1,11 @@
 -- What every call's promise says: it allows one result, a refusal changes nothing, and nothing runs out of its words.
 -- By cases on the verdict and on the call. Assumes nothing.
-use mathlib.Core.Path.{◌≡◌, refl, sym, ap, ◌∙◌}
-use mathlib.Core.Bool.{Bool, true, false, cond, false≢true}
-use mathlib.Core.List.{List, [], ◌∷◌, ◌++◌}
-use Prim.Native.Nat.{ℕ, suc, ◌+◌, ◌≤◌}
-use native.Mathlib.Omega.{arith}
-use lib.Dec.{ltb, leb}
-use lib.ListN.{length, length-take}
-use borrow.Author.Tests.{ltb-false}
-use Rattle.stamps.specs.Keys.{item_of}
+use Rattle.std.specs.Prelude.{Result, Ok, Err, Option, Some, None, ◌≡◌, refl, Bool, true, false, cond, List, [], ◌∷◌, ◌++◌, ℕ, ◌+◌, ◌≤◌, ltb, leb, length}
+use Rattle.std.proofs.Common.{sym, ap, ◌∙◌, arith, length-take, ltb-false}
+use Rattle.std.proofs.lemmas.Bool.{false≢true}
 use Rattle.stamps.specs.declared.Source.{Source}
 use Rattle.stamps.specs.declared.Source.TheVariants.{A, B}
-use Rattle.stamps.specs.declared.Item.{Item}
+use Rattle.sheets.specs.declared.rows.Victim.{Victim}
 use Rattle.sheets.specs.Layout.{room_of, single_room}
 use Rattle.rules.specs.Answers.{refused, written_of}
 use Rattle.rules.specs.Calls.{After, after, leaves, joins, arrives, evicts, tries, runs, owed, drains, alone, lists, effect, settle, after_call, fresh, opens}
@@ -24,10 +18,6 @@ use Rattle.rules.specs.declared.Why.{Why}
 use Rattle.rules.specs.declared.Why.TheVariants.{BadSheet, ListFull}
 use Rattle.rules.specs.declared.Answer.TheVariants.{Opened, Ran, More, Done, MoreLone, DoneLone, Refused}
 use Rattle.rules.specs.declared.Reply.{Reply}
-use Rattle.rules.specs.declared.Verdict.{Verdict}
-use Rattle.rules.specs.declared.Verdict.TheVariants.{Good, No}
-use Rattle.rules.specs.declared.Room.{Room}
-use Rattle.rules.specs.declared.Room.TheVariants.{Enough, Flush}
 use Rattle.rules.specs.declared.Session.{Session}
 use Rattle.rules.proofs.Settling.{either, verdict_first, verdict_last, verdict_rest}
 use Rattle.rules.proofs.Flushing.{leaving_few, flush_session, flush-length}
@@ -57,49 +47,44 @@ accepts Drain w c = either (λ x. refused x ≡ false) (ltb (room_of (length c.o
 accepts (Lone s) w c = either (λ x. refused x ≡ false) (ltb (single_room (length c.out)) (length (alone s w))) MoreLone DoneLone _ refl refl
 
 -- a refused call is refused by its checks
-pub refused_by : (w : World) (c : Lent) (y : Why) → (after_call w c).answer ≡ Refused y → verdict (checks w c) ≡ No y
+pub refused_by : (w : World) (c : Lent) (y : Why) → (after_call w c).answer ≡ Refused y → verdict (checks w c) ≡ Err y
 unfolding after_call
 refused_by w c y = go (verdict (checks w c))
   where
-    go : (v : Verdict) → (settle v w c.out (effect c.call w c)).answer ≡ Refused y → v ≡ No y
-    go Good e = absurd (false≢true (sym (accepts c.call w c) ∙ ap refused e))
-    go (No z) e = cc
+    go : (v : Result Unit Why) → (settle v w c.out (effect c.call w c)).answer ≡ Refused y → v ≡ Err y
+    go (Ok tt) e = absurd (false≢true (sym (accepts c.call w c) ∙ ap refused e))
+    go (Err z) e = cc
 
 pub refusal_leaves : (w : World) (c : Lent) (y : Why) → (after_call w c).answer ≡ Refused y → ((after_call w c).world ≡ w) × ((after_call w c).out ≡ c.out)
 unfolding after_call
 refusal_leaves w c y = go (verdict (checks w c))
   where
-    go : (v : Verdict) → let r = settle v w c.out (effect c.call w c) in r.answer ≡ Refused y → (r.world ≡ w) × (r.out ≡ c.out)
-    go Good e = absurd (false≢true (sym (accepts c.call w c) ∙ ap refused e))
-    go (No z) e = (refl, refl)
+    go : (v : Result Unit Why) → let r = settle v w c.out (effect c.call w c) in r.answer ≡ Refused y → (r.world ≡ w) × (r.out ≡ c.out)
+    go (Ok tt) e = absurd (false≢true (sym (accepts c.call w c) ∙ ap refused e))
+    go (Err z) e = (refl, refl)
 
 -- ---- making room changes no count and no length
 
-pub count_room : (room : Room) (w : World) (s : Source) → count_of (make_room room w) s ≡ count_of w s
-count_room Enough w s = refl
-count_room (Flush v q) w s = ap (λ (t : Session). (pick s t.a t.b).rows) (flush_session v q w)
+pub count_room : (room : Option Victim) (w : World) (s : Source) → count_of (make_room room w) s ≡ count_of w s
+count_room None w s = refl
+count_room (Some v) w s = ap (λ (t : Session). (pick s t.feeds.a t.feeds.b).rows) (flush_session v.source v.part w)
 
-pub length-room : (room : Room) (w : World) (s : Source) → length (sheet_of (make_room room w) s) ≡ length (sheet_of w s)
-length-room Enough w s = refl
-length-room (Flush v q) w s = flush-length v q w s
+pub length-room : (room : Option Victim) (w : World) (s : Source) → length (sheet_of (make_room room w) s) ≡ length (sheet_of w s)
+length-room None w s = refl
+length-room (Some v) w s = flush-length v.source v.part w s
 
 -- ---- the clock goes up by at most one a row, and one more for a new one
 
 flush_clock : (s : Source) (q : ℕ) (w : World) → count_of w s ≤ 4096 → (flush s q w).session.clock ≤ w.session.clock + 4096
 flush_clock s q w h = rw (flush_session s q w) (omega (arith, leaving_few w s q))
 
-room_clock : (room : Room) (w : World) → ((s : Source) → count_of w s ≤ 4096) → (make_room room w).session.clock ≤ w.session.clock + 4096
-room_clock Enough w h = omega arith
-room_clock (Flush s q) w h = flush_clock s q w (h s)
-
-store_clock : (s : Source) (item : Item) (w : World) → (store s item w).session.clock ≡ suc w.session.clock
-unfolding store
-store_clock A item w = refl
-store_clock B item w = refl
+room_clock : (room : Option Victim) (w : World) → ((s : Source) → count_of w s ≤ 4096) → (make_room room w).session.clock ≤ w.session.clock + 4096
+room_clock None w h = omega arith
+room_clock (Some v) w h = flush_clock v.source v.part w (h v.source)
 
 effect_clock : (k : Call) (w : World) (c : Lent) → ((s : Source) → count_of w s ≤ 4096) → (effect k w c).world.session.clock ≤ w.session.clock + 4097
-unfolding effect arrives joins evicts runs drains lists note shut move pass
-effect_clock (Arrive s m) w c h = omega (arith, store_clock s (item_of m) (make_room (room_for w) w), room_clock (room_for w) w h)
+unfolding effect arrives joins store evicts runs drains lists note shut move pass
+effect_clock (Arrive s m) w c h = omega (arith, room_clock (room_for w) w h)
 effect_clock (Evict s q) w c h = omega (arith, flush_clock s q w (h s))
 effect_clock (Run s q) w c h = go (idle w s q)
   where
@@ -115,17 +100,17 @@ pub clock_bound : (w : World) (c : Lent) → ((s : Source) → count_of w s ≤ 
 unfolding after_call
 clock_bound w c h = go (verdict (checks w c))
   where
-    go : (v : Verdict) → (settle v w c.out (effect c.call w c)).world.session.clock ≤ w.session.clock + 4097
-    go Good = effect_clock c.call w c h
-    go (No y) = omega arith
+    go : (v : Result Unit Why) → (settle v w c.out (effect c.call w c)).world.session.clock ≤ w.session.clock + 4097
+    go (Ok tt) = effect_clock c.call w c h
+    go (Err y) = omega arith
 
 -- ---- a call lists no more than its output has room for, be it pairs or rows without partner
 
 -- a check of the room that let the call through, after others
-room_suffices : (cs : List Check) (room n : ℕ) → verdict (cs ++ (room_check room n ∷ [])) ≡ Good → n ≤ room
+room_suffices : (cs : List Check) (room n : ℕ) → verdict (cs ++ (room_check room n ∷ [])) ≡ Ok tt → n ≤ room
 room_suffices cs room n h = ltb-false room n (verdict_first _ [] (verdict_last cs _ h))
 
-effect-fits : (k : Call) (w : World) (c : Lent) → verdict (own_checks k w c) ≡ Good → written_of (effect k w c).answer ≤ room_in k (length c.out)
+effect-fits : (k : Call) (w : World) (c : Lent) → verdict (own_checks k w c) ≡ Ok tt → written_of (effect k w c).answer ≤ room_in k (length c.out)
 unfolding effect arrives joins evicts runs drains lists own_checks
 effect-fits (Arrive s m) w c h = omega (arith, room_suffices (row_checks w.session s m) (room_of (length c.out)) _ h)
 effect-fits (Evict s q) w c h = omega arith
@@ -137,7 +122,7 @@ effect-fits (Run s q) w c h = go (idle w s q) (verdict_last (portion_checks w.se
     crowded : List Check
     crowded = check (leb 32 (length ((side_of w s).list q))) ListFull ∷ []
 
-    go : (u : Bool) → verdict (cond u [] (try_checks w s q room)) ≡ Good → written_of (cond u (after (Ran 0) w c.out) (tries s q w c.out)).answer ≤ room
+    go : (u : Bool) → verdict (cond u [] (try_checks w s q room)) ≡ Ok tt → written_of (cond u (after (Ran 0) w c.out) (tries s q w c.out)).answer ≤ room
     go true e = omega arith
     go false e = omega (arith, room_suffices crowded room _ e)
 effect-fits (Close s) w c h = omega arith
@@ -150,9 +135,9 @@ pub written-fits : (w : World) (c : Lent) → written_of (after_call w c).answer
 unfolding after_call
 written-fits w c = go (verdict (checks w c)) refl
   where
-    go : (v : Verdict) → verdict (checks w c) ≡ v → written_of (settle v w c.out (effect c.call w c)).answer ≤ room_in c.call (length c.out)
-    go Good e = effect-fits c.call w c (verdict_rest _ _ e)
-    go (No y) e = omega arith
+    go : (v : Result Unit Why) → verdict (checks w c) ≡ v → written_of (settle v w c.out (effect c.call w c)).answer ≤ room_in c.call (length c.out)
+    go (Ok tt) e = effect-fits c.call w c (verdict_rest _ _ e)
+    go (Err y) e = omega arith
 
 pub opens_none : (p m n : ℕ) (x : Sheets) → written_of (opens p m n x).answer ≡ 0
 unfolding opens

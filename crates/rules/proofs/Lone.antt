@@ -1,23 +1,23 @@
 -- Lone calls list every row without partner once, and hand them out as drains do pairs, after any list of calls that follows an
 -- accepted opening: from what holds between calls, by induction over the calls. Assumes nothing.
-use mathlib.Core.Path.{◌≡◌, refl, sym, ap, ◌∙◌, subst}
-use mathlib.Core.Bool.{Bool, true, false, cond, ◌&&◌, and-true, and-false, true≢false, false≢true}
-use mathlib.Core.List.{List, [], ◌∷◌, ◌++◌, map, append-nil, append_assoc}
-use Prim.Native.Nat.{ℕ, ◌+◌, ◌≤◌}
-use native.Mathlib.Omega.{arith}
-use lib.Dec.{ltb, eqb, leb-suc-zero}
-use lib.ListN.{length, take, drop, length-take, length-map}
-use borrow.Author.Tests.{not-false}
+use Rattle.std.specs.Prelude.{Result, Ok, Err, ◌≡◌, refl, Bool, true, false, cond, ◌&&◌, List, [], ◌∷◌, ◌++◌, map, ℕ, ◌+◌, ◌≤◌, ltb, eqb, length, take, drop}
+use Rattle.std.proofs.Common.{sym, ap, ◌∙◌, subst, true≢false, append-nil, append_assoc, arith, length-take}
+use Rattle.std.proofs.Math.Bool.{and-true, and-false, false≢true}
+use Rattle.std.proofs.Math.Dec.{leb-suc-zero}
+use Rattle.std.proofs.Math.ListN.{length-map}
+use Rattle.std.proofs.lemmas.Bool.{not-false}
 use Rattle.stamps.specs.Counting.{bit}
 use Rattle.stamps.proofs.CountingLaws.{half_le, count-append}
 use Rattle.stamps.specs.declared.Source.{Source}
 use Rattle.stamps.specs.declared.Source.TheVariants.{A, B}
+use Rattle.stamps.specs.declared.PerSource.{PerSource}
 use Rattle.sheets.specs.Layout.{Single, Told, singles_need, single_room, single_at, put_single}
 use Rattle.pairs.specs.Lones.{Items, is_lone, number, single, is_single, same_single, listings}
 use Rattle.pairs.specs.Rooms.{onward}
 use Rattle.pairs.proofs.Alone.{lone_parts, lone_tells, lones-after, unlisted-left}
 use Rattle.pairs.proofs.Handing.{read_told, Parts}
 use Rattle.pairs.proofs.Laws.{single-words}
+use Rattle.rules.specs.declared.Why.{Why}
 use Rattle.rules.specs.Answers.{singles_of}
 use Rattle.rules.specs.Calls.{After, alone, lists, effect, settle, after_call, opens}
 use Rattle.rules.specs.Demand3.{wrote, after_calls, opened, ForAnyCalls}
@@ -25,11 +25,8 @@ use Rattle.rules.specs.Lone.{asks, named, listed, to_list, Lones}
 use Rattle.rules.specs.Refusals.{verdict, both_closed, checks, own_checks}
 use Rattle.rules.specs.Rounds.{Handed, saying_at}
 use Rattle.rules.specs.World.{World, pick, same, count_of, place_of, items_from, pass, Sheets, given, with_call, Lent}
-use Rattle.rules.specs.declared.Places.{Places}
 use Rattle.rules.specs.declared.Call.TheVariants.{Lone}
 use Rattle.rules.specs.declared.Answer.TheVariants.{Opened, MoreLone, DoneLone}
-use Rattle.rules.specs.declared.Verdict.{Verdict}
-use Rattle.rules.specs.declared.Verdict.TheVariants.{Good, No}
 use Rattle.rules.proofs.Apart.{by_kind, other_asks, asks_own, view_of, closed-leaves, lone-leaves, own_places, others-heard, lone-heard}
 use Rattle.rules.proofs.Seen.{same_own}
 use Rattle.rules.proofs.Fitting.{Fit, fit-pass}
@@ -106,12 +103,12 @@ module _ (s : Source) (w : World) (l : List Told) (c : Lent) (m : List Single) (
   unfolding after_call own_checks effect
   open_lone h v c = go (verdict (checks w (with_call (Lone v) c))) refl
     where
-      go : (y : Verdict) → verdict (checks w (with_call (Lone v) c)) ≡ y → let r = settle y w c.out (effect (Lone v) w c) in (r.world ≡ w) × (named r ≡ [])
-      go Good e = absurd (false≢true (sym h ∙ not-false _ (verdict_first _ _ (verdict_rest _ _ e))))
-      go (No y) e = (refl, refl)
+      go : (y : Result Unit Why) → verdict (checks w (with_call (Lone v) c)) ≡ y → let r = settle y w c.out (effect (Lone v) w c) in (r.world ≡ w) × (named r ≡ [])
+      go (Ok tt) e = absurd (false≢true (sym h ∙ not-false _ (verdict_first _ _ (verdict_rest _ _ e))))
+      go (Err y) e = (refl, refl)
 
   open_place : both_closed w.session ≡ false → place_of (after_call w c).world s ≡ place_of w s
-  open_place h = by_kind (λ c. place_of (after_call w c).world s ≡ place_of w s) (λ c e. ap (λ (p : Places). pick s p.a p.b) (own_places w c e))
+  open_place h = by_kind (λ c. place_of (after_call w c).world s ≡ place_of w s) (λ c e. ap (λ (p : PerSource ℕ). pick s p.a p.b) (own_places w c e))
       (λ v c. ap (λ (x : World). place_of x s) (open_lone h v c).0) c
 
   -- what a call has listed of the source
@@ -144,9 +141,9 @@ module _ (s : Source) (w : World) (l : List Told) (c : Lent) (m : List Single) (
       told x = count-append same_single x m (named (lists s w o)) ∙ ap (λ (k : List Single). listings x m + listings x k) (lone_named s w o)
           ∙ rw (t.tells x) (lone_tells (items_from s w) (place_of w s) (single_room (length o)) (place_of (lists s w o).world s) (lone_next s w o g.fit) x)
 
-      go : (y : Verdict) → let r = settle y w c.out (lists s w o) in Tracks s r.world (m ++ named r)
-      go Good = record { start = λ e. absurd (true≢false (sym h ∙ e)); tells = told }
-      go (No y) = subst (Tracks s w) (sym (append-nil m)) t
+      go : (y : Result Unit Why) → let r = settle y w c.out (lists s w o) in Tracks s r.world (m ++ named r)
+      go (Ok tt) = record { start = λ e. absurd (true≢false (sym h ∙ e)); tells = told }
+      go (Err y) = subst (Tracks s w) (sym (append-nil m)) t
 
   tracks_call : Tracks s (after_call w c).world (m ++ named_by c)
   tracks_call = go (both_closed w.session) refl (asks s c.call) refl
@@ -167,16 +164,16 @@ tracks_calls s w l m (c ∷ cs) g t = let r = after_call w c in
 
 last_listed : (s : Source) (w : World) (o : List ℕ) (n : ℕ) → (lists s w o).answer ≡ DoneLone n → ltb (single_room (length o)) (length (alone s w)) ≡ false
 unfolding lists
-last_listed s w o = said_last MoreLone DoneLone (λ m n h. let z : ◌≡◌ {A = ℕ} 0 1 = cc in omega arith) (single_room (length o)) (alone s w)
+last_listed s w o = said_last MoreLone DoneLone (λ m n h. cc) (single_room (length o)) (alone s w)
 
 -- the position is at the end
 done-place : (s : Source) (w : World) (o : List ℕ) (n : ℕ) → (after_call w (given (Lone s) o)).answer ≡ DoneLone n → place_of (after_call w (given (Lone s) o)).world s ≡ count_of w s
 unfolding after_call effect
 done-place s w o n = go (verdict (checks w (given (Lone s) o)))
   where
-    go : (y : Verdict) → let r = settle y w o (lists s w o) in r.answer ≡ DoneLone n → place_of r.world s ≡ count_of w s
-    go Good e = lone_place s w o ∙ rw (last_listed s w o n e)
-    go (No y) e = let z : ◌≡◌ {A = ℕ} 0 1 = cc in absurd (omega arith)
+    go : (y : Result Unit Why) → let r = settle y w o (lists s w o) in r.answer ≡ DoneLone n → place_of r.world s ≡ count_of w s
+    go (Ok tt) e = lone_place s w o ∙ rw (last_listed s w o n e)
+    go (Err y) e = cc
 
 -- a row without partner is one of those accepted
 passed_all : (t : Items) (x : Single) → (is_single t x && ltb x.row t.rows) ≡ is_single t x

@@ -1,12 +1,9 @@
 -- What holds between calls holds after an accepted opening, and after every call. By induction over the calls.
 -- Assumes nothing.
-use mathlib.Core.Path.{◌≡◌, refl, sym, ap, ◌∙◌, subst}
-use mathlib.Core.Bool.{Bool, true, false, cond}
-use mathlib.Core.List.{List, [], ◌∷◌}
-use Prim.Native.Nat.{ℕ, zero, suc, ◌≤◌, ◌<◌}
-use native.Mathlib.Omega.{arith}
-use lib.Dec.{leb-suc-zero}
-use lib.ListN.{length-replicate, get_or, replicate}
+use Rattle.std.specs.Prelude.{◌≡◌, refl, Bool, true, false, cond, List, [], ◌∷◌, ℕ, zero, suc, ◌≤◌, ◌<◌, get_or, replicate}
+use Rattle.std.proofs.Common.{sym, ap, ◌∙◌, subst, arith}
+use Rattle.std.proofs.Math.Dec.{leb-suc-zero}
+use Rattle.std.proofs.Math.ListN.{length-replicate}
 use Rattle.stamps.specs.Counting.{values}
 use Rattle.stamps.proofs.StampsLaws.{Below}
 use Rattle.stamps.specs.declared.Source.{Source}
@@ -76,7 +73,7 @@ opened-fresh p m n x = go (sizes_fit p m n (lengths x))
 
     go : (u : Bool) → (said u).answer ≡ Opened → (u ≡ true) × (world (said u).session x ≡ world (fresh p m n) x)
     go true h = (refl, refl)
-    go false h = let z : ◌≡◌ {A = ℕ} 0 1 = cc in absurd (omega arith)
+    go false h = cc
 
 pub sits-opened : (p m n : ℕ) (x : Sheets) → (opens p m n x).answer ≡ Opened → Sits (opened p m n x) []
 sits-opened p m n x h = let f = opened-fresh p m n x h in subst (λ (w : World). Sits w []) (sym f.1) (sits-fresh p m n x f.0)

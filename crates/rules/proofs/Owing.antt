@@ -1,13 +1,9 @@
 -- What holds between calls: a pair is written exactly if its rows were accepted, they match, and they were done before or a drain has passed them.
 -- Each change keeps it, the same for A and for B. Assumes nothing.
-use mathlib.Core.Path.{◌≡◌, refl, sym, ap, ◌∙◌}
-use mathlib.Core.Bool.{Bool, true, false, ◌&&◌, ◌||◌, or-false, true≢false}
-use mathlib.Core.List.{List, [], ◌++◌}
-use Prim.Native.Nat.{ℕ, suc, ◌+◌, ◌*◌, ◌≤◌}
-use native.Mathlib.Nat.{le_refl}
-use native.Mathlib.Omega.{arith}
-use lib.Dec.{ltb, leb-suc-zero}
-use lib.ListN.{length, take}
+use Rattle.std.specs.Prelude.{◌≡◌, refl, Bool, true, false, ◌&&◌, ◌||◌, List, [], ◌++◌, ℕ, suc, ◌+◌, ◌*◌, ◌≤◌, ltb, length, take}
+use Rattle.std.proofs.Common.{sym, ap, ◌∙◌, true≢false, le_refl, arith}
+use Rattle.std.proofs.Math.Bool.{or-false}
+use Rattle.std.proofs.Math.Dec.{leb-suc-zero}
 use Rattle.stamps.specs.Counting.{bit}
 use Rattle.stamps.proofs.CountingLaws.{count-append}
 use Rattle.stamps.specs.Sources.{other}

@@ -1,14 +1,9 @@
 -- A list handed out call by call: what the call of a given number says, from what one call says and leaves. By induction over the calls.
 -- Drains and lone calls are its two cases. Assumes nothing.
-use mathlib.Core.Path.{◌≡◌, refl, sym, ap, ap₂, ◌∙◌}
-use mathlib.Core.Bool.{Bool, true, false, cond}
-use mathlib.Core.List.{List, [], ◌∷◌, ◌++◌, map}
-use Prim.Native.Nat.{ℕ, suc, ◌+◌, ◌*◌, ◌-◌, ◌≤◌, min}
-use native.Mathlib.Nat.{suc-mul, one-mul, zero-mul, le_of_suc-le-suc, div-lt_iff_lt-mul}
-use native.Mathlib.Omega.{arith}
-use lib.Dec.{ltb, leb}
-use lib.ListN.{length, take, drop, length-take, length-drop, length-map}
-use borrow.Author.Tests.{le-leb, lt-leb, ne_eqb}
+use Rattle.std.specs.Prelude.{Ok, ◌≡◌, refl, Bool, true, false, cond, List, [], ◌∷◌, ◌++◌, map, ℕ, suc, ◌+◌, ◌*◌, ◌-◌, ◌≤◌, min, ltb, leb, length, take, drop}
+use Rattle.std.proofs.Common.{sym, ap, ap₂, ◌∙◌, suc-mul, one-mul, zero-mul, le_of_suc-le-suc, div-lt_iff_lt-mul, arith, length-take, length-drop, le-leb, ne_eqb}
+use Rattle.std.proofs.Math.ListN.{length-map}
+use Rattle.std.proofs.lemmas.Bool.{lt-leb}
 use Rattle.stamps.proofs.CountingLaws.{tests}
 use Rattle.sheets.specs.Layout.{Told}
 use Rattle.pairs.proofs.Handing.{take-map}
@@ -19,7 +14,6 @@ use Rattle.rules.specs.Rounds.{again, Rooms, saying, Handed, ceil, saying_at, ro
 use Rattle.rules.specs.World.{World, given}
 use Rattle.rules.specs.declared.Call.{Call}
 use Rattle.rules.specs.declared.Answer.{Answer}
-use Rattle.rules.specs.declared.Verdict.TheVariants.{Good}
 use Rattle.rules.proofs.Fitting.{Fit, fits_hold}
 
 -- ---- one call
@@ -30,7 +24,7 @@ pub record Shut (w : World) : Type 0 where
   pub closed : both_closed w.session ≡ true
 
 -- a drain or a lone call with some room is not refused there
-pub shut_good : (w : World) → Shut w → (room : ℕ) → 1 ≤ room → verdict (sheet_check (session_fits w) ∷ drain_checks w.session room) ≡ Good
+pub shut_good : (w : World) → Shut w → (room : ℕ) → 1 ≤ room → verdict (sheet_check (session_fits w) ∷ drain_checks w.session room) ≡ Ok tt
 unfolding verdict
 shut_good w g room h = rw (fits_hold w g.fit, g.closed, ne_eqb room 0 (omega arith))
 

@@ -1,26 +1,22 @@
 -- Each call that is not refused keeps what holds between calls, and what it wrote is read back. By the checks that it passed.
 -- The victim enters as some portion. Assumes nothing.
-use mathlib.Core.Path.{◌≡◌, refl, ap, ◌∙◌}
-use mathlib.Core.Bool.{Bool, true, false, cond, ◌&&◌}
-use mathlib.Core.List.{List, [], ◌++◌, append-nil}
-use Prim.Native.Nat.{ℕ, suc, ◌*◌, ◌≤◌, ◌<◌}
-use native.Mathlib.Omega.{arith}
-use lib.Dec.{ltb}
-use lib.ListN.{length, take, length-take}
-use borrow.Author.Tests.{not-false, leb-false, ltb-false}
-use Rattle.stamps.proofs.CountingLaws.{both}
+use Rattle.std.specs.Prelude.{Result, Ok, Err, Option, Some, None, ◌≡◌, refl, Bool, true, false, cond, ◌&&◌, List, [], ◌++◌, ℕ, suc, ◌*◌, ◌≤◌, ◌<◌, ltb, length, take}
+use Rattle.std.proofs.Common.{ap, ◌∙◌, append-nil, arith, length-take, leb-false, ltb-false}
+use Rattle.std.proofs.lemmas.Bool.{and_parts, not-false}
 use Rattle.stamps.specs.Keys.{item_of}
 use Rattle.stamps.specs.Sources.{other}
 use Rattle.stamps.specs.declared.Source.{Source}
 use Rattle.stamps.specs.declared.Source.TheVariants.{A, B}
 use Rattle.stamps.specs.declared.Message.{Message}
 use Rattle.stamps.specs.declared.Item.{Item}
+use Rattle.sheets.specs.declared.rows.Victim.{Victim}
 use Rattle.sheets.specs.Layout.{Told, rows_need, room_of, single_room, pairs_need, pair_at, put_pair, Pair, tell}
 use Rattle.pairs.specs.Pairs.{position, tell_all, told, put_from, pairs_at}
 use Rattle.pairs.proofs.Alone.{lone_parts}
 use Rattle.pairs.proofs.Handing.{read_told, Parts}
 use Rattle.pairs.proofs.Laws.{pair-words}
 use Rattle.pairs.proofs.Rises.{drain-parts}
+use Rattle.rules.specs.declared.Why.{Why}
 use Rattle.rules.specs.Answers.{pairs_of}
 use Rattle.rules.specs.Calls.{After, after, joins, arrives, evicts, tries, runs, owed, drains, alone, lists, effect, settle, after_call}
 use Rattle.rules.specs.Demand3.{wrote}
@@ -29,10 +25,6 @@ use Rattle.rules.specs.World.{World, count_of, sheet_of, closed_of, rows_of, see
 use Rattle.rules.specs.declared.Call.{Call}
 use Rattle.rules.specs.declared.Call.TheVariants.{Arrive, Evict, Run, Close, Drain, Lone}
 use Rattle.rules.specs.declared.Answer.TheVariants.{Ran, More, Done, MoreLone, DoneLone}
-use Rattle.rules.specs.declared.Verdict.{Verdict}
-use Rattle.rules.specs.declared.Verdict.TheVariants.{Good, No}
-use Rattle.rules.specs.declared.Room.{Room}
-use Rattle.rules.specs.declared.Room.TheVariants.{Enough, Flush}
 use Rattle.rules.proofs.Laws.{count_room}
 use Rattle.rules.proofs.Owing.{Sound, sound-flush, sound-store, sound-note, sound-shut, sound-move, sound-pass}
 use Rattle.rules.proofs.Fitting.{Fit, rows_fit, row_fits, fit-flush, fit-store, listable, fit-note, fit-shut, fit-move, fit-pass}
@@ -54,7 +46,7 @@ not-begun w l g e = go (closed_of w A) refl (closed_of w B) refl e
     go true h true k e = absurd (mathlib.Core.Bool.true≢false e)
 
 pub closed_of_lem : (w : World) → both_closed w.session ≡ true → (s : Source) → closed_of w s ≡ true
-closed_of_lem w h = let c = both (closed_of w A) (closed_of w B) h in both_sources (λ s. closed_of w s ≡ true) A c.0 c.1
+closed_of_lem w h = let c = and_parts (closed_of w A) (closed_of w B) h in both_sources (λ s. closed_of w s ≡ true) A c.0 c.1
 
 -- ---- what was written is read back
 
@@ -85,16 +77,16 @@ module _ (w : World) (l : List Told) (c : Lent) (g : Sits w l) where
   nothing w' h = rw append-nil h
 
   -- some portion, or none, is flushed
-  sits_room : (room : Room) → w.session.next ≡ 0 → Sits (make_room room w) l × ((make_room room w).session.next ≡ 0)
-  sits_room Enough z = (g, z)
-  sits_room (Flush s q) z = (sits-flush s q w l g z, (flush-seen s q w (rows_fit w g.fit s)).same_next ∙ z)
+  sits_room : (room : Option Victim) → w.session.next ≡ 0 → Sits (make_room room w) l × ((make_room room w).session.next ≡ 0)
+  sits_room None z = (g, z)
+  sits_room (Some v) z = (sits-flush v.source v.part w l g z, (flush-seen v.source v.part w (rows_fit w g.fit v.source)).same_next ∙ z)
 
-  limit_room : (room : Room) → (make_room room w).session.limit ≡ w.session.limit
-  limit_room Enough = refl
-  limit_room (Flush s q) = ap (λ (e : Extent). e.limit) (flush-seen s q w (rows_fit w g.fit s)).same_extent
+  limit_room : (room : Option Victim) → (make_room room w).session.limit ≡ w.session.limit
+  limit_room None = refl
+  limit_room (Some v) = ap (λ (e : Extent). e.limit) (flush-seen v.source v.part w (rows_fit w g.fit v.source)).same_extent
 
   -- an arrival that is not refused
-  module _ (s : Source) (m : Message) (h : verdict (own_checks (Arrive s m) w c) ≡ Good) where
+  module _ (s : Source) (m : Message) (h : verdict (own_checks (Arrive s m) w c) ≡ Ok tt) where
     not_drained : w.session.next ≡ 0
     unfolding own_checks
     not_drained = g.sound.start s (verdict_first _ _ (verdict_rest _ _ h))
@@ -116,15 +108,15 @@ module _ (w : World) (l : List Told) (c : Lent) (g : Sits w l) where
         rw (reads s (λ i. item_of m) (λ j. (rows_of w' (other s) j).item) (arrived s (item_of m) w') o room_left)
         (record { sound = sound-store s (item_of m) w' l row-space r.1 r.0.sound; fit = fit-store s (item_of m) w' r.0.fit r.1 some_left })
 
-  sits_evict : (s : Source) (q : ℕ) → verdict (own_checks (Evict s q) w c) ≡ Good → Goes (effect (Evict s q) w c)
+  sits_evict : (s : Source) (q : ℕ) → verdict (own_checks (Evict s q) w c) ≡ Ok tt → Goes (effect (Evict s q) w c)
   unfolding own_checks effect evicts
   sits_evict s q h = nothing (flush s q w) (sits-flush s q w l g (not-begun w l g.sound (verdict_first _ _ (verdict_rest _ _ h))))
 
-  sits_run : (s : Source) (q : ℕ) → verdict (own_checks (Run s q) w c) ≡ Good → Goes (effect (Run s q) w c)
+  sits_run : (s : Source) (q : ℕ) → verdict (own_checks (Run s q) w c) ≡ Ok tt → Goes (effect (Run s q) w c)
   unfolding own_checks effect runs
   sits_run s q h = go (idle w s q) h
     where
-      go : (u : Bool) → verdict (portion_checks w.session q ++ cond u [] (try_checks w s q (room_of (length o)))) ≡ Good
+      go : (u : Bool) → verdict (portion_checks w.session q ++ cond u [] (try_checks w s q (room_of (length o)))) ≡ Ok tt
           → Goes (cond u (after (Ran 0) w o) (tries s q w o))
       go true h = nothing w g
       go false h = let h₁ = verdict_rest _ _ h in let h₂ = verdict_rest _ _ h₁ in
@@ -143,7 +135,7 @@ module _ (w : World) (l : List Told) (c : Lent) (g : Sits w l) where
   unfolding drains move
   drain_next = drain-parts (seen_from A w) w.session.next (room_of (length o)) g.fit.next
 
-  sits_drain : verdict (own_checks Drain w c) ≡ Good → Goes (effect Drain w c)
+  sits_drain : verdict (own_checks Drain w c) ≡ Ok tt → Goes (effect Drain w c)
   unfolding own_checks effect drains move
   sits_drain h = rw drain-wrote (record { sound = sound-move (room_of (length o)) _ w l drain_next (closed_of_lem w (not-false _ (verdict_first _ _ h))) g.sound; fit = fit-move _ w g.fit drain_next.to })
 
@@ -156,7 +148,7 @@ module _ (w : World) (l : List Told) (c : Lent) (g : Sits w l) where
   unfolding lists
   sits_lone s = rw (lone_wrote s) (nothing (lists s w o).world (sits-pass s _ w l g (lone_parts (items_from s w) (place_of w s) (single_room (length o)) (g.fit.lone s)).to))
 
-  sits_effect : (k : Call) → verdict (own_checks k w c) ≡ Good → Goes (effect k w c)
+  sits_effect : (k : Call) → verdict (own_checks k w c) ≡ Ok tt → Goes (effect k w c)
   unfolding effect
   sits_effect (Arrive s m) h = sits_arrive s m h
   sits_effect (Evict s q) h = sits_evict s q h
@@ -170,6 +162,6 @@ module _ (w : World) (l : List Told) (c : Lent) (g : Sits w l) where
   unfolding after_call
   sits-call = go (verdict (checks w c)) refl
     where
-      go : (v : Verdict) → verdict (checks w c) ≡ v → Goes (settle v w c.out (effect c.call w c))
-      go Good e = sits_effect c.call (verdict_rest _ _ e)
-      go (No y) e = nothing w g
+      go : (v : Result Unit Why) → verdict (checks w c) ≡ v → Goes (settle v w c.out (effect c.call w c))
+      go (Ok tt) e = sits_effect c.call (verdict_rest _ _ e)
+      go (Err y) e = nothing w g

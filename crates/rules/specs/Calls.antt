@@ -1,5 +1,5 @@
 -- What each call answers and leaves: the record, every word of the sheets and of the output.
-use Rattle.std.specs.Prelude.{false, cond, List, map, ℕ, ◌*◌, ltb, length, take, replicate}
+use Rattle.std.specs.Prelude.{Result, Ok, Err, false, cond, List, map, ℕ, ◌*◌, ltb, length, take, replicate}
 use Rattle.stamps.specs.Keys.{item_of}
 use Rattle.stamps.specs.Sources.{other}
 use Rattle.stamps.specs.declared.Source.{Source}
@@ -10,6 +10,7 @@ use Rattle.sheets.specs.Rows.{latest}
 use Rattle.pairs.specs.Lones.{lones_from, number, single}
 use Rattle.pairs.specs.Pairs.{position, due_from, tell_all, told, put_from}
 use Rattle.pairs.specs.Rooms.{onward, put_all}
+use Rattle.rules.specs.declared.Why.{Why}
 use Rattle.rules.specs.World.{World, world, count_of, rows_of, seen_from, place_of, items_from, leaving, flush, store, note, shut, move, pass, Sheets, Lent, lengths}
 use Rattle.rules.specs.Refusals.{verdict, sizes_fit, room_for, make_room, arrived, idle, ran, checks}
 use Rattle.rules.specs.declared.Session.{Session}
@@ -19,8 +20,6 @@ use Rattle.rules.specs.declared.Why.TheVariants.{BadSheet}
 use Rattle.rules.specs.declared.Answer.{Answer}
 use Rattle.rules.specs.declared.Answer.TheVariants.{Opened, Taken, Flushed, Ran, Shut, More, Done, MoreLone, DoneLone, Refused}
 use Rattle.rules.specs.declared.Reply.{Reply}
-use Rattle.rules.specs.declared.Verdict.{Verdict}
-use Rattle.rules.specs.declared.Verdict.TheVariants.{Good, No}
 
 -- an answer, the record and the sheets, and the output
 pub record After : Type 0 where
@@ -95,9 +94,9 @@ effect (Lone s) w c = lists s w c.out
 -- ---- every call
 
 -- "A refusal hands the session record back equal and writes no word anywhere"
-abbrev pub settle : Verdict → World → List ℕ → After → After
-settle Good w o t = t
-settle (No y) w o t = after (Refused y) w o
+abbrev pub settle : Result Unit Why → World → List ℕ → After → After
+settle (Ok u) w o t = t
+settle (Err y) w o t = after (Refused y) w o
 
 -- the first check that fails refuses the call; else it does what its rule says
 unfoldable pub after_call : World → Lent → After
@@ -112,8 +111,7 @@ fresh p m n = record {
   slots = m;
   limit = n;
   clock = 0;
-  a = record { rows = 0; closed = false };
-  b = record { rows = 0; closed = false };
+  feeds = record { a = record { rows = 0; closed = false }; b = record { rows = 0; closed = false } };
   counts = replicate 32 0;
   next = 0;
   lone = record { a = 0; b = 0 };

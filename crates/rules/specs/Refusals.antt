@@ -1,5 +1,5 @@
 -- When the box says no: the checks of each call, in the order of document 01's table.
-use Rattle.std.specs.Prelude.{Bool, true, cond, not, ◌&&◌, ◌||◌, List, [], ◌∷◌, ◌++◌, ℕ, zero, suc, ◌+◌, ◌*◌, ltb, leb, eqb, length, get_or}
+use Rattle.std.specs.Prelude.{Result, Ok, Err, Option, Some, None, Bool, true, cond, not, ◌&&◌, ◌||◌, List, [], ◌∷◌, ◌++◌, ℕ, zero, suc, ◌+◌, ◌*◌, ltb, leb, eqb, length, get_or}
 use Rattle.stamps.specs.Counting.{tally, span, all_of}
 use Rattle.stamps.specs.Keys.{in_range, item_of}
 use Rattle.stamps.specs.Sources.{other}
@@ -18,10 +18,6 @@ use Rattle.rules.specs.declared.Call.{Call}
 use Rattle.rules.specs.declared.Call.TheVariants.{Arrive, Evict, Run, Close, Drain, Lone}
 use Rattle.rules.specs.declared.Why.{Why}
 use Rattle.rules.specs.declared.Why.TheVariants.{BadSheet, BadKey, BadPart, Closed, SheetFull, ListFull, StillOpen, RoomShort}
-use Rattle.rules.specs.declared.Verdict.{Verdict}
-use Rattle.rules.specs.declared.Verdict.TheVariants.{Good, No}
-use Rattle.rules.specs.declared.Room.{Room}
-use Rattle.rules.specs.declared.Room.TheVariants.{Enough, Flush}
 
 -- ---- checks in order
 
@@ -35,9 +31,9 @@ abbrev pub check : Bool → Why → Check
 check u y = record { fails = u; why = y }
 
 -- the first that fails
-unfoldable pub verdict : List Check → Verdict
-verdict [] = Good
-verdict (c ∷ cs) = cond c.fails (No c.why) (verdict cs)
+unfoldable pub verdict : List Check → Result Unit Why
+verdict [] = Ok tt
+verdict (c ∷ cs) = cond c.fails (Err c.why) (verdict cs)
 
 -- ---- number 1, BadSheet
 
@@ -57,12 +53,12 @@ sizes_fit p m n k = all_of (size_tests p m n k)
 -- "a row count above N; clock above 16384; .. position above A rows x B rows", a position of the lone calls "above its row count"
 abbrev pub number_tests : Session → List Bool
 number_tests t =
-    leb t.a.rows t.limit
-    ∷ leb t.b.rows t.limit
+    leb t.feeds.a.rows t.limit
+    ∷ leb t.feeds.b.rows t.limit
     ∷ leb t.clock 16384
-    ∷ leb t.next (t.a.rows * t.b.rows)
-    ∷ leb t.lone.a t.a.rows
-    ∷ leb t.lone.b t.b.rows
+    ∷ leb t.next (t.feeds.a.rows * t.feeds.b.rows)
+    ∷ leb t.lone.a t.feeds.a.rows
+    ∷ leb t.lone.b t.feeds.b.rows
     ∷ []
 
 -- all of these
@@ -95,13 +91,13 @@ abbrev pub victim_of : World → Victim
 victim_of w = victim w.session.parts (held_of w A) (held_of w B)
 
 -- what has to be flushed for one more row
-unfoldable pub room_for : World → Room
-room_for w = cond (full w) (Flush (victim_of w).source (victim_of w).part) Enough
+unfoldable pub room_for : World → Option Victim
+room_for w = cond (full w) (Some (victim_of w)) None
 
 -- "flush one portion first", where that is needed
-abbrev pub make_room : Room → World → World
-make_room Enough w = w
-make_room (Flush s q) w = flush s q w
+abbrev pub make_room : Option Victim → World → World
+make_room None w = w
+make_room (Some v) w = flush v.source v.part w
 
 -- the pairs of an arrival in a box that has room
 abbrev pub arrived : Source → Item → World → List Pair
@@ -125,7 +121,7 @@ sheet_check fits = check (not fits) BadSheet
 
 -- both sources are closed
 abbrev pub both_closed : Session → Bool
-both_closed t = t.a.closed && t.b.closed
+both_closed t = t.feeds.a.closed && t.feeds.b.closed
 
 -- a named portion: numbers 3 and 4
 abbrev pub portion_checks : Session → ℕ → List Check
@@ -135,13 +131,13 @@ portion_checks t q = check (leb t.parts q) BadPart ∷ check (both_closed t) Clo
 abbrev pub row_checks : Session → Source → Message → List Check
 row_checks t s m =
     check (not (in_range m)) BadKey
-    ∷ check (pick s t.a t.b).closed Closed
-    ∷ check (leb t.limit (pick s t.a t.b).rows) SheetFull
+    ∷ check (pick s t.feeds.a t.feeds.b).closed Closed
+    ∷ check (leb t.limit (pick s t.feeds.a t.feeds.b).rows) SheetFull
     ∷ []
 
 -- a close: number 4
 abbrev pub close_checks : Session → Source → List Check
-close_checks t s = check (pick s t.a t.b).closed Closed ∷ []
+close_checks t s = check (pick s t.feeds.a t.feeds.b).closed Closed ∷ []
 
 -- a drain or a lone call: numbers 7 and 8
 abbrev pub drain_checks : Session → ℕ → List Check

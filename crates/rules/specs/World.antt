@@ -1,10 +1,12 @@
 -- The box in words: a session record and the sheets that calls are lent, what a call is given, and what may change.
-use Rattle.std.specs.Prelude.{Bool, true, false, List, [], ℕ, suc, ◌+◌, length, get_or, set}
-use Rattle.stamps.specs.Sources.{other}
+use Rattle.std.specs.Prelude.{Bool, true, List, [], ℕ, suc, ◌+◌, length, get_or, set}
+use Rattle.stamps.specs.Sources.{other, put}
+pub use Rattle.stamps.specs.Sources.{pick, same}
 use Rattle.stamps.specs.declared.Source.{Source}
 use Rattle.stamps.specs.declared.Source.TheVariants.{A, B}
 use Rattle.stamps.specs.declared.Item.{Item}
 use Rattle.stamps.specs.declared.Row.{Row}
+use Rattle.stamps.specs.declared.PerSource.{PerSource}
 use Rattle.sheets.specs.Layout.{row_at, put_row, list_no, put_entry}
 use Rattle.sheets.specs.Lists.{list_of}
 use Rattle.sheets.specs.Rows.{hot_rows, leave}
@@ -12,7 +14,6 @@ use Rattle.pairs.specs.Lones.{Items, items_in}
 use Rattle.pairs.specs.Pairs.{Side, Table}
 use Rattle.rules.specs.declared.Call.{Call}
 use Rattle.rules.specs.declared.Feed.{Feed}
-use Rattle.rules.specs.declared.Places.{Places}
 use Rattle.rules.specs.declared.Session.{Session}
 
 -- all sheets that a call is lent: the rows of each source, and the probe lists
@@ -55,21 +56,9 @@ given c o = record { call = c; out = o }
 
 -- ---- one source of the two
 
--- x for A, y for B
-abbrev pub pick : {X : Type 0} → Source → X → X → X
-pick A x y = x
-pick B x y = y
-
--- one and the same source
-abbrev pub same : Source → Source → Bool
-same A A = true
-same A B = false
-same B A = false
-same B B = true
-
 -- its part of the record
 abbrev pub feed_of : World → Source → Feed
-feed_of w s = pick s w.session.a w.session.b
+feed_of w s = pick s w.session.feeds.a w.session.feeds.b
 
 -- its row sheet
 abbrev pub sheet_of : World → Source → List ℕ
@@ -107,30 +96,23 @@ items_from s w = items_in (count_of w s) (count_of w (other s)) (sheet_of w s) (
 
 -- the clock
 abbrev pub with_clock : ℕ → Session → Session
-with_clock c t = record { parts = t.parts; slots = t.slots; limit = t.limit; clock = c; a = t.a; b = t.b; counts = t.counts; next = t.next; lone = t.lone }
+with_clock c t = record t { clock = c }
 
 -- the part of one source
 abbrev pub with_feed : Source → Feed → Session → Session
-with_feed A f t = record { parts = t.parts; slots = t.slots; limit = t.limit; clock = t.clock; a = f; b = t.b; counts = t.counts; next = t.next; lone = t.lone }
-with_feed B f t = record { parts = t.parts; slots = t.slots; limit = t.limit; clock = t.clock; a = t.a; b = f; counts = t.counts; next = t.next; lone = t.lone }
+with_feed s f t = record t { feeds = put s f t.feeds }
 
 -- the entry counts
 abbrev pub with_counts : List ℕ → Session → Session
-with_counts l t = record { parts = t.parts; slots = t.slots; limit = t.limit; clock = t.clock; a = t.a; b = t.b; counts = l; next = t.next; lone = t.lone }
+with_counts l t = record t { counts = l }
 
 -- the drain position
 abbrev pub with_next : ℕ → Session → Session
-with_next k t = record { parts = t.parts; slots = t.slots; limit = t.limit; clock = t.clock; a = t.a; b = t.b; counts = t.counts; next = k; lone = t.lone }
+with_next k t = record t { next = k }
 
 -- the positions of the lone calls
-abbrev pub with_lone : Places → Session → Session
-with_lone p t =
-    record { parts = t.parts; slots = t.slots; limit = t.limit; clock = t.clock; a = t.a; b = t.b; counts = t.counts; next = t.next; lone = p }
-
--- that of one source
-abbrev pub with_place : Source → ℕ → Places → Places
-with_place A k p = record { a = k; b = p.b }
-with_place B k p = record { a = p.a; b = k }
+abbrev pub with_lone : PerSource ℕ → Session → Session
+with_lone p t = record t { lone = p }
 
 -- ---- one of the sheets changed
 
@@ -179,7 +161,7 @@ move k w = world (with_next k w.session) w.sheets
 
 -- the position of a source's lone calls moved
 unfoldable pub pass : Source → ℕ → World → World
-pass s k w = world (with_lone (with_place s k w.session.lone) w.session) w.sheets
+pass s k w = world (with_lone (put s k w.session.lone) w.session) w.sheets
 
 -- ---- for the proofs alone
 

@@ -1,7 +1,7 @@
 // The session record, the calls, and what they answer: the types that the definitions speak of. No code.
 #![tactic(auto)]
 
-use stamps::{Message, Source};
+use stamps::{Message, PerSource, Source};
 
 // Of one source: rows accepted, and whether it is closed.
 #[derive(Clone, Copy)]
@@ -10,25 +10,18 @@ pub struct Feed {
     pub closed: bool,
 }
 
-// Of each source, the position of its lone calls: the rows up to there have been passed.
-#[derive(Clone, Copy)]
-pub struct Places {
-    pub a: u32,
-    pub b: u32,
-}
-
-// P, M, N, the clock, the two sources, the entry count of each list by its number, the drain position, and those of the lone calls.
+// P, M, N, the clock, the two sources, the entry count of each list by its number, the drain position, and for each source the position of its
+// lone calls: the rows up to there have been passed.
 #[derive(Clone, Copy)]
 pub struct Session {
     pub parts: u32,
     pub slots: u32,
     pub limit: u32,
     pub clock: u32,
-    pub a: Feed,
-    pub b: Feed,
+    pub feeds: PerSource<Feed>,
     pub counts: [u32; 32],
     pub next: u32,
-    pub lone: Places,
+    pub lone: PerSource<u32>,
 }
 
 #[derive(Clone, Copy)]
@@ -75,18 +68,4 @@ pub enum Answer {
 pub struct Reply {
     pub answer: Answer,
     pub session: Session,
-}
-
-// What the checks of a call find, in their order.
-#[derive(Clone, Copy)]
-pub enum Verdict {
-    Good,
-    No(Why),
-}
-
-// What has to be flushed for one more row.
-#[derive(Clone, Copy)]
-pub enum Room {
-    Enough,
-    Flush(Source, u32),
 }

@@ -14,13 +14,13 @@ use Rattle.stamps.specs.declared.Source.TheVariants.{A, B}
 use Rattle.stamps.specs.declared.Row.{Row}
 use Rattle.stamps.specs.declared.Entry.{Entry}
 use Rattle.stamps.specs.Counting.{bit, tally, up_to}
-use Rattle.stamps.proofs.CountingLaws.{tests, one_more, eqb_ne, tally_le, kept_last, length-kept}
+use Rattle.std.proofs.lemmas.Bool.{eqb-false}
+use Rattle.stamps.proofs.CountingLaws.{tests, one_more, tally_le, kept_last, length-kept}
 use Rattle.stamps.specs.Keys.{part_of}
 use Rattle.stamps.specs.Stamps.{in_memory, stamp}
-use Rattle.sheets.specs.Layout.{rows_need, row_at, put_row, probe_need, list_no, list_need, entry_at, put_entry}
+use Rattle.sheets.specs.Layout.{rows_need, row_at, put_row, list_no, list_need, entry_at, put_entry}
 use Rattle.sheets.proofs.LayoutLaws.{length-put_row, row_same, row_other, row_beyond, entry_same, entry_other, row-again}
 use Rattle.sheets.specs.Lists.{entries, list_of, probed_at}
-use Rattle.sheets.specs.declared.lists.ProbeList.{ProbeList}
 use Rattle.sheets.specs.Rows.{hot, spooled, memory_rows, portion_rows, latest, flushed, leave, hot_rows}
 
 -- ---- rows laid over a sheet
@@ -103,7 +103,7 @@ rows-put l n x h = fun_ext λ i. go i (eqb i n) refl
   where
     go : (i : ℕ) (u : Bool) → eqb i n ≡ u → row_at (put_row n x l) i ≡ cond u x (row_at l i)
     go i true e = rw (eqb-true i n e) (row_same l n x h)
-    go i false e = row_other l n x i (eqb_ne i n e)
+    go i false e = row_other l n x i (eqb-false i n e)
 
 -- ---- probe lists
 
@@ -127,15 +127,10 @@ list_entries parts counts probe s q h = rw (lt-ltb q parts h)
 pub length_list : (parts : ℕ) (counts probe : List ℕ) (s : Source) (q : ℕ) → q < parts → length (list_of parts counts probe s q) ≡ get_or counts (list_no parts s q) 0
 length_list parts counts probe s q h = ap length (list_entries parts counts probe s q h) ∙ length-entries probe (list_no parts s q) (get_or counts (list_no parts s q) 0)
 
--- the entries that it is said to have stand in the probe sheet
+-- it stands among those of the probe sheet
 pub list_small : (parts : ℕ) (s : Source) (q : ℕ) → q < parts → list_no parts s q < 2 * parts
 list_small parts A q h = omega arith
 list_small parts B q h = omega arith
-
-pub list_fits : (parts : ℕ) (counts probe : List ℕ) (s : Source) (q : ℕ) (l : ProbeList) → probe_need parts ≤ length probe
-    → ((k : ℕ) → k < 2 * parts → get_or counts k 0 ≤ 32) → q < parts → l ≡ record { number = list_no parts s q; size = get_or counts (list_no parts s q) 0 }
-    → list_need l.number l.size ≤ length probe
-list_fits parts counts probe s q l h short b e = rw e (omega (arith, list_small parts s q b, short (list_no parts s q) (list_small parts s q b)))
 
 -- one entry more in list k, which had n: the other lists, and the entries before it, stay
 pub entries_other : (probe : List ℕ) (k n : ℕ) (x : Entry) (k' m : ℕ) → (k' ≡ k → m ≤ n) → n < 32 → m ≤ 32 → entries (put_entry k n x probe) k' m ≡ entries probe k' m
@@ -176,7 +171,7 @@ latest_none parts q f n = go (eqb (tally (λ i. spooled parts q (f i)) n) 0) ref
 
     go : (u : Bool) → eqb (tally (λ i. spooled parts q (f i)) n) 0 ≡ u → eqb (latest parts q f n) 0 ≡ u
     go true e = eq-eqb _ 0 (zeros n (eqb-true _ 0 e))
-    go false e = ne_eqb _ 0 (λ h. eqb_ne _ 0 e (some n h))
+    go false e = ne_eqb _ 0 (λ h. eqb-false _ 0 e (some n h))
 
 -- ---- the rows after a flush
 

@@ -1,8 +1,8 @@
 mod ListTurns
 mod RowTurns
-pub mod Counted
 pub mod Laws
 pub mod LayoutLaws
 pub mod LayoutMeaning
 pub mod Noted
+pub mod Ranges
 pub mod Victim

@@ -1,12 +1,9 @@
--- The turns of the loop over a probe list, and its last entry: the list so far is one entry longer with each turn.
+-- What the chain over a probe list finds, and its last entry.
 -- Assumes nothing.
-use mathlib.Core.Path.{◌≡◌, refl, sym, ap, ◌∙◌}
-use mathlib.Core.Bool.{Bool, false, ◌||◌}
-use mathlib.Core.List.{List}
-use Prim.Native.Nat.{ℕ, zero, suc, ◌+◌, ◌-◌}
-use native.Mathlib.Omega.{arith}
-use native.Mathlib.Numerals.{add-one}
-use lib.Dec.{eqb}
+use Rattle.std.proofs.Common.{◌≡◌, refl, sym, ap, ◌∙◌, Bool, false, List, ◌++◌, [], ◌∷◌, ℕ, zero, suc, ◌+◌, ◌-◌, eqb, zero-add, add-zero, arith}
+use Rattle.std.specs.List.{list_any, range_with_len}
+use Rattle.std.proofs.lemmas.List.Folds.{list_any-append}
+use mathlib.Core.Bool.{or-false}
 use Rattle.stamps.specs.declared.Row.{Row}
 use Rattle.stamps.specs.declared.Entry.{Entry}
 use Rattle.stamps.specs.Stamps.{covers, used}
@@ -15,18 +12,16 @@ use Rattle.sheets.specs.Layout.{entry_at}
 use Rattle.sheets.specs.Lists.{entries, probed_at}
 use Rattle.sheets.proofs.Laws.{probed_last}
 
--- found among the first e entries
-pub record Looked (probe : List ℕ) (k : ℕ) (x y : Row) (e : ℕ) (found : Bool) : Type 0 where
-  pub is_used : found ≡ used (entries probe k e) x y
+range_last : (i n : ℕ) → range_with_len i (suc n) ≡ range_with_len i n ++ ((i + n) ∷ [])
+range_last i zero = rw add-zero
+range_last i (suc n) = let e : i + 1 + n ≡ i + suc n = omega arith in rw (range_last (i + 1) n, e)
 
-pub looked_first : (probe : List ℕ) (k : ℕ) (x y : Row) → Looked probe k x y 0 false
+-- one entry after the other
+pub used-range : (probe : List ℕ) (k n : ℕ) (x y : Row) → list_any (λ e. covers (entry_at probe k e) x y) (range_with_len 0 n) ≡ used (entries probe k n) x y
 unfolding entries
-looked_first probe k x y = record { is_used = sym (used_none x y) }
-
-pub looked_next : (probe : List ℕ) (k : ℕ) (x y : Row) (e : ℕ) (found here : Bool) → Looked probe k x y e found
-    → here ≡ covers (entry_at probe k e) x y → Looked probe k x y (e + 1) (found || here)
-unfolding entries
-looked_next probe k x y e found here h c = record { is_used = rw (add-one e, used_snoc, ← h.is_used, ← c) }
+used-range probe k zero x y = sym (used_none x y)
+used-range probe k (suc n) x y = let test : ℕ → Bool = λ e. covers (entry_at probe k e) x y in
+    ap (list_any test) (range_last 0 n) ∙ list_any-append test (range_with_len 0 n) ((0 + n) ∷ []) ∙ rw (used-range probe k n x y, used_snoc, zero-add, or-false)
 
 -- the last of n entries
 pub probed_none : (probe : List ℕ) (k n clock : ℕ) → n ≡ 0 → false ≡ probed_at clock (entries probe k n)
@@ -35,7 +30,7 @@ probed_none probe k n clock e = rw e
 
 pub probed_some : (probe : List ℕ) (k n clock : ℕ) (e : Entry) → (n ≡ 0 → ⊥) → e ≡ entry_at probe k (n - 1)
     → eqb e.probe clock ≡ probed_at clock (entries probe k n)
-unfolding entries
+unfolding entries probed_at
 probed_some probe k zero clock e h d = absurd (h refl)
 probed_some probe k (suc n) clock e h d = let g : suc n - 1 ≡ n = omega arith in
     ap (λ (x : Entry). eqb x.probe clock) (d ∙ ap (entry_at probe k) g) ∙ sym (probed_last clock (entries probe k n) (entry_at probe k n))

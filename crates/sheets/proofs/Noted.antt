@@ -13,7 +13,8 @@ use Rattle.stamps.specs.declared.Source.{Source}
 use Rattle.stamps.specs.declared.Source.TheVariants.{A, B}
 use Rattle.stamps.specs.declared.Entry.{Entry}
 use Rattle.stamps.specs.Sources.{other}
-use Rattle.stamps.proofs.CountingLaws.{tests, eqb_ne}
+use Rattle.std.proofs.lemmas.Bool.{eqb-false}
+use Rattle.stamps.proofs.CountingLaws.{tests}
 use Rattle.sheets.specs.Layout.{probe_need, list_no, put_entry}
 use Rattle.sheets.specs.Lists.{entries, list_of}
 use Rattle.sheets.proofs.Laws.{list_small, entries_other, entries_new}
@@ -42,7 +43,7 @@ module _ (parts : ℕ) (counts probe : List ℕ) (s : Source) (q : ℕ) (e : Ent
           → entries (put_entry no had e probe) (list_no parts u k) (get_or (set counts no (suc had)) (list_no parts u k) 0)
           ≡ cond v (entries probe (list_no parts u k) (get_or counts (list_no parts u k) 0) ++ (e ∷ [])) (entries probe (list_no parts u k) (get_or counts (list_no parts u k) 0))
       at b true f = rw (eqb-true (list_no parts u k) no f, get_or-set_same counts no (suc had) 0 (omega (arith, small))) (entries_new probe no had e free (omega (arith, small)))
-      at b false f = let d : list_no parts u k ≡ no → ⊥ = eqb_ne (list_no parts u k) no f in
+      at b false f = let d : list_no parts u k ≡ no → ⊥ = eqb-false (list_no parts u k) no f in
           rw (get_or-set_other counts no (list_no parts u k) (suc had) 0 d)
           (entries_other probe no had e (list_no parts u k) (get_or counts (list_no parts u k) 0) (λ g. absurd (d g)) free (short (list_no parts u k) (list_small parts u k b)))
 
@@ -59,7 +60,7 @@ module _ (parts : ℕ) (counts probe : List ℕ) (s : Source) (q : ℕ) (e : Ent
       go : (s : Source) (v : Bool) → eqb k q ≡ v → (ltb k parts && eqb (list_no parts s k) (list_no parts s q)) ≡ v
       go s true f = rw (eqb-true k q f, lt-ltb q parts h) (eq-eqb (list_no parts s q) (list_no parts s q) refl)
       go A false f = rw f (mathlib.Core.Bool.and-false (ltb k parts))
-      go B false f = rw (ne_eqb (parts + k) (parts + q) (λ g. eqb_ne k q f (omega arith))) (mathlib.Core.Bool.and-false (ltb k parts))
+      go B false f = rw (ne_eqb (parts + k) (parts + q) (λ g. eqb-false k q f (omega arith))) (mathlib.Core.Bool.and-false (ltb k parts))
 
   -- the other one
   pub list_facing : (k : ℕ) → noted (other s) k ≡ list_of parts counts probe (other s) k

@@ -1,7 +1,8 @@
 // Where rows, entries and pairs stand in 32-bit words. Nobody else knows how many words each has.
-ghost use Rattle.std.specs.Prelude.{◌≡◌, ◌+◌, ◌≤◌, ◌<◌, length};
+ghost use Rattle.std.specs.Prelude.{◌≡◌, ◌+◌, ◌*◌, ◌/◌, ◌≤◌, ◌<◌, length};
+ghost use Rattle.std.proofs.lemmas.List.Edits.{sets};
 ghost use Rattle.stamps.specs.Stamps.{stamp};
-ghost use Rattle.sheets.specs.Layout.{rows_need, probe_need, room_of, row_at, put_row, list_no, list_need, entry_at, put_entry, pairs_need, shows, tell, put_pair, singles_need, single_room, put_single};
+ghost use Rattle.sheets.specs.Layout.{rows_need, row_at, put_row, list_need, entry_at, put_entry, pairs_need, shows, tell, put_pair, singles_need, put_single};
 
 use stamps::{Entry, Item, Row, Source};
 
@@ -14,94 +15,92 @@ const ENTRY: usize = 2;
 // Of a list, which has 32 entries.
 pub const LIST: usize = 64;
 
+// Of a partition's lists, one for each source.
+pub const LISTS: usize = 128;
+
 // Of a pair: its row of A, its row of B and their key.
 pub const PAIR: usize = 3;
 
 // Of a row by itself, as lone calls write it: its number and key.
 pub const SINGLE: usize = 2;
 
-// The words that so many rows take.
-pub fn rows_need(rows: u32) -> usize
-    ensures { result ≡ rows_need rows }
+// The words that so many things of one width take.
+pub fn words_of<const WIDTH: usize>(things: u32) -> usize
+    requires { WIDTH ≤ LISTS }
+    ensures { result ≡ WIDTH * things }
 {
-    ROW * (rows as usize)
+    WIDTH * (things as usize)
 }
 
-// The words that the lists of so many partitions take, for both sources.
-pub fn probe_need(parts: u32) -> usize
-    ensures { result ≡ probe_need parts }
+// The things of one width that so many words have room for.
+pub fn room_in<const WIDTH: usize>(words: usize) -> usize
+    requires { 0 < WIDTH }
+    ensures { result ≡ words / WIDTH }
 {
-    2 * LIST * (parts as usize)
+    words / WIDTH
 }
 
-// The words that so many pairs take.
-pub fn pairs_need(pairs: u32) -> usize
-    ensures { result ≡ pairs_need pairs }
-{
-    PAIR * (pairs as usize)
+// The rows of one source, in lent words.
+#[derive(Clone, Copy)]
+pub struct Sheet<'s> {
+    pub words: &'s [u32],
+    pub rows: usize,
+    pub ghost fits: { rows_need rows ≤ length words.now },
 }
 
-// The pairs that an output of so many words has room for.
-pub fn room_of(words: usize) -> usize
-    ensures { result ≡ room_of words }
-{
-    words / PAIR
-}
+#[tactic(auto, unfolding(crate::specs::Layout::row_at))]
+impl Sheet<'_> {
+    // What is kept of its message.
+    pub fn item(&self, row: usize) -> Item
+        requires { row < self.now.rows }
+        ensures { result ≡ (row_at self.now.words.now row).item }
+    {
+        Item {
+            key: self.words[ROW * row],
+        }
+    }
 
-// The words that so many rows by themselves take.
-pub fn singles_need(singles: u32) -> usize
-    ensures { result ≡ singles_need singles }
-{
-    SINGLE * (singles as usize)
-}
+    // Its DTS.
+    pub fn dts(&self, row: usize) -> u32
+        requires { row < self.now.rows }
+        ensures { result ≡ (row_at self.now.words.now row).dts }
+    {
+        self.words[ROW * row + 2]
+    }
 
-// The rows by themselves that an output of so many words has room for.
-pub fn single_room(words: usize) -> usize
-    ensures { result ≡ single_room words }
-{
-    words / SINGLE
-}
-
-pub fn item_at(sheet: &[u32], row: usize) -> Item
-    requires { rows_need (row + 1) ≤ length sheet.now }
-    ensures { result ≡ (row_at sheet.now row).item }
-{
-    Item {
-        key: sheet[ROW * row],
+    // All of it.
+    pub fn row(&self, row: usize) -> Row
+        requires { row < self.now.rows }
+        ensures { result ≡ row_at self.now.words.now row }
+    {
+        let at = ROW * row;
+        Row {
+            item: self.item(row),
+            ats: self.words[at + 1],
+            dts: self.words[at + 2],
+        }
     }
 }
 
-pub fn dts_at(sheet: &[u32], row: usize) -> u32
-    requires { rows_need (row + 1) ≤ length sheet.now }
-    ensures { result ≡ (row_at sheet.now row).dts }
+// Writes a thing of so many words, from word number at on.
+fn put<const WIDTH: usize>(words: &mut [u32], at: usize, thing: [u32; WIDTH])
+    requires { at + WIDTH ≤ length words.old }
+    ensures { words.new ≡ sets words.old at thing.entry }
 {
-    sheet[ROW * row + 2]
+    words[at..at + WIDTH].copy_from_slice(&thing);
 }
 
-pub fn row_at(sheet: &[u32], row: usize) -> Row
-    requires { rows_need (row + 1) ≤ length sheet.now }
-    ensures { result ≡ row_at sheet.now row }
-{
-    let at = ROW * row;
-    let item = item_at(sheet, row);
-    Row {
-        item,
-        ats: sheet[at + 1],
-        dts: sheet[at + 2],
-    }
-}
-
+// Row number row becomes x.
+#[tactic(auto, unfolding(crate::specs::Layout::put_row))]
 pub fn put_row(sheet: &mut [u32], row: usize, x: Row)
     requires { rows_need (row + 1) ≤ length sheet.old }
     ensures { sheet.new ≡ put_row row x sheet.old }
 {
-    let at = ROW * row;
-    sheet[at] = x.item.key;
-    sheet[at + 1] = x.ats;
-    sheet[at + 2] = x.dts;
+    put(sheet, ROW * row, [x.item.key, x.ats, x.dts]);
 }
 
 // The row's DTS becomes t.
+#[tactic(auto, using(crate::proofs::LayoutMeaning::put_dts_is))]
 pub fn put_dts(sheet: &mut [u32], row: usize, t: u32)
     requires { rows_need (row + 1) ≤ length sheet.old }
     ensures { sheet.new ≡ put_row row (stamp t (row_at sheet.old row)) sheet.old }
@@ -109,18 +108,8 @@ pub fn put_dts(sheet: &mut [u32], row: usize, t: u32)
     sheet[ROW * row + 2] = t;
 }
 
-// The number of a portion's list: A's lists stand before B's.
-pub fn list_no(parts: u32, source: Source, part: u32) -> usize
-    requires { (part < parts) × (parts ≤ 16) }
-    ensures { (result ≡ list_no parts source part) × (result < 32) }
-{
-    match source {
-        Source::A => part as usize,
-        Source::B => (parts + part) as usize,
-    }
-}
-
 // Entry number e of a list.
+#[tactic(auto, unfolding(crate::specs::Layout::entry_at))]
 pub fn entry_at(probe: &[u32], list: usize, e: usize) -> Entry
     requires { list_need list (e + 1) ≤ length probe.now }
     ensures { result ≡ entry_at probe.now list e }
@@ -132,24 +121,22 @@ pub fn entry_at(probe: &[u32], list: usize, e: usize) -> Entry
     }
 }
 
+// Entry number e of a list becomes x.
+#[tactic(auto, unfolding(crate::specs::Layout::put_entry))]
 pub fn put_entry(probe: &mut [u32], list: usize, e: usize, x: Entry)
     requires { list_need list (e + 1) ≤ length probe.old }
     ensures { probe.new ≡ put_entry list e x probe.old }
 {
-    let at = LIST * list + ENTRY * e;
-    probe[at] = x.last;
-    probe[at + 1] = x.probe;
+    put(probe, LIST * list + ENTRY * e, [x.last, x.probe]);
 }
 
 // Pair number w, of rows of A and B with these items; the two have one key.
+#[tactic(auto, unfolding(crate::specs::Layout::put_pair, crate::specs::Layout::shows))]
 fn put_pair(out: &mut [u32], w: usize, a: u32, b: u32, of_a: Item, of_b: Item)
     requires { pairs_need (w + 1) ≤ length out.old }
     ensures { out.new ≡ put_pair w (record { a = a; b = b; shown = shows of_a of_b }) out.old }
 {
-    let at = PAIR * w;
-    out[at] = a;
-    out[at + 1] = b;
-    out[at + 2] = of_a.key;
+    put(out, PAIR * w, [a, b, of_a.key]);
 }
 
 // Pair number w, of a row of the source and the row of the other source that faces it.
@@ -172,11 +159,10 @@ pub fn put_told(
 }
 
 // Number w: a row, with its item.
+#[tactic(auto, unfolding(crate::specs::Layout::put_single))]
 pub fn put_single(out: &mut [u32], w: usize, row: u32, item: Item)
     requires { singles_need (w + 1) ≤ length out.old }
     ensures { out.new ≡ put_single w (record { row = row; key = item.key }) out.old }
 {
-    let at = SINGLE * w;
-    out[at] = row;
-    out[at + 1] = item.key;
+    put(out, SINGLE * w, [row, item.key]);
 }

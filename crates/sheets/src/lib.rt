@@ -3,4 +3,5 @@
 
 pub mod layout;
 pub mod lists;
+pub mod parts;
 pub mod rows;

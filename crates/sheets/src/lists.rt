@@ -1,76 +1,92 @@
 // Probe lists: which pairs earlier runs have used.
-ghost use Rattle.std.specs.Prelude.{◌≡◌, ◌≤◌, ◌<◌, length, get_or};
-ghost use Rattle.stamps.specs.Stamps.{used, done_before};
-ghost use Rattle.sheets.specs.Layout.{list_no, list_need};
-ghost use Rattle.sheets.specs.Lists.{entries, probed_at};
+ghost use Rattle.std.specs.Prelude.{◌≡◌, ◌*◌, ◌≤◌, ◌<◌, ℕ, length, get_or};
+ghost use Rattle.sheets.specs.Layout.{list_no, list_need, probe_need, entry_at};
 
-use crate::layout::{entry_at, list_no};
-use stamps::{Row, Source};
+use crate::layout::entry_at;
+use crate::parts::Parts;
+use stamps::{Entry, Row, Source};
 
-// A list's number, and how many entries it has.
+// The list of one portion: its number among the lists of the probe sheet, and how many entries it has.
 #[derive(Clone, Copy)]
-pub struct ProbeList {
+pub struct ProbeList<'s> {
+    pub probe: &'s [u32],
     pub number: usize,
     pub size: usize,
+    pub ghost fits: { list_need number size ≤ length probe.now },
 }
 
-// As an argument a number is known to fit its type, where as an element of an array it is not.
-fn wide(x: u32) -> usize
-    ensures { result ≡ x }
-{
-    x as usize
-}
+impl ProbeList<'_> {
+    ghost use Rattle.stamps.specs.Stamps.{used, done_before};
+    ghost use Rattle.sheets.specs.Lists.{entries_of, probed_at};
 
-// The list of a portion.
-pub fn list_of(counts: &[u32; 32], parts: u32, source: Source, part: u32) -> ProbeList
-    requires { (part < parts) × (parts ≤ 16) }
-    ensures { result ≡ record { number = list_no parts source part; size = get_or counts.now (list_no parts source part) 0 } }
-{
-    let number = list_no(parts, source, part);
-    let size = wide(counts[number]);
-    ProbeList { number, size }
-}
-
-// An entry of x's list covers x and y.
-pub fn was_used(probe: &[u32], list: ProbeList, x: Row, y: Row) -> bool
-    requires { list_need list.number list.size ≤ length probe.now }
-    ensures { result ≡ used (entries probe.now list.number list.size) x y }
-{
-    let number = list.number;
-    let size = list.size;
-    let mut found = false;
-    let mut e: usize = 0;
-    while e < size {
-        found = found | stamps::run_covers(entry_at(probe, number, e), x, y);
-        e += 1;
+    // Entry number e.
+    fn entry(&self, e: usize) -> Entry
+        requires { e < self.now.size }
+        ensures { result ≡ entry_at self.now.probe.now self.now.number e }
+    {
+        entry_at(self.probe, self.number, e)
     }
-    found
+
+    // An entry of x's list covers x and y.
+    pub fn used(&self, x: Row, y: Row) -> bool
+        ensures { result ≡ used (entries_of self.now) x y }
+    {
+        (0..self.size).any(|e| stamps::run_covers(self.entry(e), x, y))
+    }
+
+    // Done before, by rules 1, 2 and 3: this is the list of x's portion, theirs that of y's.
+    #[tactic(auto, using(stamps::proofs::StampsLaws::done_is))]
+    pub fn done_before(&self, theirs: &ProbeList, x: Row, y: Row) -> bool
+        ensures { result ≡ done_before (entries_of self.now) (entries_of theirs.now) x y }
+    {
+        stamps::were_together(x, y) || self.used(x, y) || theirs.used(y, x)
+    }
+
+    // The last run of the list's portion was at this clock.
+    pub fn probed_at(&self, clock: u32) -> bool
+        ensures { result ≡ probed_at clock (entries_of self.now) }
+    {
+        self.size != 0 && self.entry(self.size - 1).probe == clock
+    }
 }
 
-// Done before, by rules 1, 2 and 3: mine is the list of x's portion, theirs that of y's.
-pub fn done_before(probe: &[u32], mine: ProbeList, theirs: ProbeList, x: Row, y: Row) -> bool
-    requires { (list_need mine.number mine.size ≤ length probe.now) × (list_need theirs.number theirs.size ≤ length probe.now) }
-    ensures { result ≡ done_before (entries probe.now mine.number mine.size) (entries probe.now theirs.number theirs.size) x y }
+// The number of a portion's list, and how many entries it has: enough for who adds one.
+pub fn list_of(counts: &[u32; 32], parts: Parts, source: Source, part: u32) -> (usize, usize)
+    requires { (part < parts.count) × (parts.count ≤ 16) }
+    ensures number { result.0 ≡ list_no parts.count source part }
+    ensures size { result.1 ≡ get_or counts.now (list_no parts.count source part) 0 }
 {
-    if stamps::were_together(x, y) {
-        return true;
-    }
-    if was_used(probe, mine, x, y) {
-        return true;
-    }
-    was_used(probe, theirs, y, x)
+    let number = parts.list_no(source, part);
+    (number, counts[number] as usize)
 }
 
-// The last run of the list's portion was at this clock.
-pub fn was_probed(probe: &[u32], list: ProbeList, clock: u32) -> bool
-    requires { list_need list.number list.size ≤ length probe.now }
-    ensures { result ≡ probed_at clock (entries probe.now list.number list.size) }
-{
-    let number = list.number;
-    let size = list.size;
-    if size == 0 {
-        return false;
+// The probe sheet, and how many entries each of its lists has.
+#[derive(Clone, Copy)]
+pub struct Lists<'s> {
+    pub probe: &'s [u32],
+    pub counts: &'s [u32; 32],
+    pub parts: Parts,
+    pub ghost few_parts: { parts.count ≤ 16 },
+    pub ghost fits: { probe_need parts.count ≤ length probe.now },
+    pub ghost short: { (k : ℕ) → k < 2 * parts.count → get_or counts.now k 0 ≤ 32 },
+}
+
+impl<'s> Lists<'s> {
+    ghost use Rattle.sheets.specs.Lists.{entries_of, list_of};
+
+    // The list of a portion.
+    pub fn of(&self, source: Source, part: u32) -> ProbeList<'s>
+        requires { part < self.now.parts.count }
+        ensures entries { entries_of result ≡ list_of self.now.parts.count self.now.counts.now self.now.probe.now source part }
+        ensures probe { result.probe.now ≡ self.now.probe.now }
+        ensures number { result.number ≡ list_no self.now.parts.count source part }
+        ensures size { result.size ≡ get_or self.now.counts.now (list_no self.now.parts.count source part) 0 }
+    {
+        let (number, size) = list_of(self.counts, self.parts, source, part);
+        ProbeList {
+            probe: self.probe,
+            number,
+            size,
+        }
     }
-    let entry = entry_at(probe, number, size - 1);
-    entry.probe == clock
 }

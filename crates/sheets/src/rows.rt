@@ -4,41 +4,63 @@ ghost use Rattle.stamps.specs.Counting.{values};
 ghost use Rattle.sheets.specs.Layout.{rows_need, row_at};
 ghost use Rattle.sheets.specs.Rows.{hot, memory_rows, portion_rows, latest, Flushes, held_in, first_largest, largest_part, victim};
 
-use crate::layout::{dts_at, item_at, put_dts};
+use crate::layout::{Sheet, put_dts};
+use crate::parts::Parts;
 use stamps::Source;
 
-pub fn count_memory(sheet: &[u32], rows: usize) -> usize
-    requires { rows_need rows ≤ length sheet.now }
-    ensures { result ≡ memory_rows (row_at sheet.now) rows }
-{
-    let mut count: usize = 0;
-    let mut i: usize = 0;
-    while i < rows {
-        let row = i;
-        i += 1;
-        if dts_at(sheet, row) == 0 {
-            count += 1;
-        }
+impl Sheet<'_> {
+    // The number of rows in memory.
+    pub fn count_memory(&self) -> usize
+        ensures { result ≡ memory_rows (row_at self.now.words.now) self.now.rows }
+    {
+        (0..self.rows).filter(|&row| self.dts(row) == 0).count()
     }
-    count
-}
 
-// The memory rows of each partition, in one pass.
-fn count_portions(sheet: &[u32], rows: usize, parts: u32) -> [usize; 16]
-    requires { (rows_need rows ≤ length sheet.now) × (0 < parts) × (parts ≤ 16) }
-    ensures { result ≡ values (λ q. portion_rows parts q (row_at sheet.now) rows) 16 }
-{
-    let mut counts = [0usize; 16];
-    let mut i: usize = 0;
-    while i < rows {
-        let row = i;
-        i += 1;
-        if dts_at(sheet, row) == 0 {
-            let part = stamps::part_of(parts, item_at(sheet, row)) as usize;
-            counts[part] += 1;
+    // The memory rows of each partition, in one pass.
+    fn count_portions(&self, parts: Parts) -> [usize; 16]
+        requires { parts.count ≤ 16 }
+        ensures { result ≡ values (λ q. portion_rows parts.count q (row_at self.now.words.now) self.now.rows) 16 }
+    {
+        let mut sizes = [0; 16];
+        for row in 0..self.rows {
+            if self.dts(row) == 0 {
+                sizes[parts.of(self.item(row)) as usize] += 1;
+            }
         }
+        sizes
     }
-    counts
+
+    // The partition of which the source has most rows in memory.
+    fn largest_part(&self, parts: Parts) -> u32
+        requires { parts.count ≤ 16 }
+        ensures { result ≡ largest_part parts.count (held_in parts.count (row_at self.now.words.now) self.now.rows) }
+    {
+        let sizes = self.count_portions(parts);
+        first_largest(&sizes[..parts.count as usize])
+    }
+
+    // Row number row is in memory and of the partition.
+    fn is_hot(&self, row: usize, parts: Parts, part: u32) -> bool
+        requires { row < self.now.rows }
+        ensures { result ≡ hot parts.count part (row_at self.now.words.now row) }
+    {
+        self.dts(row) == 0 && parts.of(self.item(row)) == part
+    }
+
+    // The largest DTS in a portion's spooled rows: 0 exactly if it has none, since DTS 0 is that of a row in memory, and no Option: document 01 keeps
+    // this number in an entry.
+    pub fn latest_dts(&self, parts: Parts, part: u32) -> u32
+        ensures { result ≡ latest parts.count part (row_at self.now.words.now) self.now.rows }
+    {
+        let mut last = 0;
+        for row in 0..self.rows {
+            let dts = self.dts(row);
+            if last < dts && parts.of(self.item(row)) == part {
+                last = dts;
+            }
+        }
+        last
+    }
 }
 
 // The portion to flush when memory is full.
@@ -49,102 +71,50 @@ pub struct Victim {
 }
 
 // The first of the largest sizes.
-fn first_largest(sizes: [usize; 16], parts: u32) -> u32
-    requires { (0 < parts) × (parts ≤ 16) }
-    ensures { result ≡ first_largest (λ q. get_or sizes q 0) parts }
+fn first_largest(sizes: &[usize]) -> u32
+    requires { (0 < length sizes.now) × (length sizes.now ≤ 16) }
+    ensures { result ≡ first_largest (λ q. get_or sizes.now q 0) (length sizes.now) }
 {
-    let mut best: u32 = 0;
-    let mut i: u32 = 0;
-    while i < parts {
-        let part = i;
-        i += 1;
-        if sizes[best as usize] < sizes[part as usize] {
+    let mut best = 0;
+    for (part, size) in sizes.iter().enumerate() {
+        if sizes[best] < *size {
             best = part;
         }
     }
-    best
-}
-
-// The partition of which the source has most rows in memory.
-fn largest_part(sheet: &[u32], rows: usize, parts: u32) -> u32
-    requires { (rows_need rows ≤ length sheet.now) × (0 < parts) × (parts ≤ 16) }
-    ensures { result ≡ largest_part parts (held_in parts (row_at sheet.now) rows) }
-{
-    let sizes = count_portions(sheet, rows, parts);
-    first_largest(sizes, parts)
+    best as u32
 }
 
 // Each source comes with the number of its rows in memory, so that one sheet is passed over, and once.
-pub fn find_victim(
-    a: &[u32],
-    a_rows: usize,
-    a_held: usize,
-    b: &[u32],
-    b_rows: usize,
-    b_held: usize,
-    parts: u32,
-) -> Victim
-    requires a_rows_in_bounds { (rows_need a_rows ≤ length a.now) × (rows_need b_rows ≤ length b.now) × (0 < parts) × (parts ≤ 16) }
-    requires a_held_value { (a_held ≡ memory_rows (row_at a.now) a_rows) × (b_held ≡ memory_rows (row_at b.now) b_rows) }
-    ensures { result ≡ victim parts (held_in parts (row_at a.now) a_rows) (held_in parts (row_at b.now) b_rows) }
+pub fn find_victim(a: &Sheet, a_held: usize, b: &Sheet, b_held: usize, parts: Parts) -> Victim
+    requires few_parts { parts.count ≤ 16 }
+    requires held { (a_held ≡ memory_rows (row_at a.now.words.now) a.now.rows) × (b_held ≡ memory_rows (row_at b.now.words.now) b.now.rows) }
+    ensures { result ≡ victim parts.count (held_in parts.count (row_at a.now.words.now) a.now.rows) (held_in parts.count (row_at b.now.words.now) b.now.rows) }
 {
     if a_held < b_held {
-        return Victim {
+        Victim {
             source: Source::B,
-            part: largest_part(b, b_rows, parts),
-        };
+            part: b.largest_part(parts),
+        }
+    } else {
+        Victim {
+            source: Source::A,
+            part: a.largest_part(parts),
+        }
     }
-    Victim {
-        source: Source::A,
-        part: largest_part(a, a_rows, parts),
-    }
-}
-
-// Row number row is in memory and of the partition.
-fn is_hot(sheet: &[u32], row: usize, parts: u32, part: u32) -> bool
-    requires { (rows_need (row + 1) ≤ length sheet.now) × (0 < parts) }
-    ensures { result ≡ hot parts part (row_at sheet.now row) }
-{
-    if dts_at(sheet, row) == 0 {
-        return stamps::part_of(parts, item_at(sheet, row)) == part;
-    }
-    false
 }
 
 // Flushes a portion; the answer is the number of rows flushed, by which the clock goes up.
-pub fn flush(sheet: &mut [u32], rows: usize, parts: u32, part: u32, clock: u32) -> u32
-    requires { (rows_need rows ≤ length sheet.old) × (0 < parts) × (clock + rows < 2 ^ 32) }
-    ensures { Flushes parts part clock rows sheet.old result sheet.new }
+pub fn flush(words: &mut [u32], rows: usize, parts: Parts, part: u32, clock: u32) -> u32
+    requires { (rows_need rows ≤ length words.old) × (clock + rows < 2 ^ 32) }
+    ensures { Flushes parts.count part clock rows words.old result words.new }
 {
-    let mut done: u32 = 0;
-    let mut i: usize = 0;
-    while i < rows {
-        let row = i;
-        i += 1;
-        if is_hot(sheet, row, parts, part) {
+    let mut done = 0;
+    for row in 0..rows {
+        let sheet = Sheet { words, rows };
+        if sheet.is_hot(row, parts, part) {
             done += 1;
-            put_dts(sheet, row, clock + done);
+            put_dts(words, row, clock + done);
         }
     }
     done
-}
-
-// The largest DTS in a portion's spooled rows: 0 exactly if it has none.
-pub fn latest_dts(sheet: &[u32], rows: usize, parts: u32, part: u32) -> u32
-    requires { (rows_need rows ≤ length sheet.now) × (0 < parts) }
-    ensures { result ≡ latest parts part (row_at sheet.now) rows }
-{
-    let mut last: u32 = 0;
-    let mut i: usize = 0;
-    while i < rows {
-        let row = i;
-        i += 1;
-        let dts = dts_at(sheet, row);
-        if last < dts {
-            if stamps::part_of(parts, item_at(sheet, row)) == part {
-                last = dts;
-            }
-        }
-    }
-    last
 }

@@ -1,8 +1,7 @@
 -- A flush, and what an eviction leaves.
 -- Assumes nothing.
-use mathlib.Core.Path.{◌≡◌, ap, ◌∙◌}
-use mathlib.Core.List.{List}
-use Prim.Native.Nat.{ℕ, ◌+◌}
+use Rattle.std.specs.Prelude.{◌≡◌, List, ℕ, ◌+◌}
+use Rattle.std.proofs.Common.{ap, ◌∙◌}
 use Rattle.stamps.specs.declared.Source.{Source}
 use Rattle.sheets.specs.Rows.{Flushes}
 use Rattle.rules.specs.Calls.{after, evicts}

@@ -3,11 +3,12 @@ ghost use Rattle.std.specs.Prelude.{◌≡◌, List, ℕ, length};
 ghost use Rattle.rules.specs.Calls.{leaves, after_call};
 ghost use Rattle.rules.specs.World.{world, bundle, given};
 ghost use Rattle.rules.specs.declared.Call.TheVariants.{Evict};
-ghost use Rattle.checks.specs.Passed.{Rows};
+ghost use Rattle.checks.specs.Passed.{Rows, settled};
 ghost use Rattle.stage1.specs.Work.{Clears};
 
-use checks::refusals::{check_portion, session_fits};
-use rules::{Answer, Reply, Session, Verdict};
+use checks::refusals::{BoxView, settled};
+use rules::{Answer, Reply, Session, Why};
+use sheets::parts::Parts;
 use sheets::rows::flush;
 use stamps::Source;
 
@@ -18,28 +19,53 @@ pub struct Cleared {
     pub rows: u32,
 }
 
-// Flushes a portion, and moves the clock.
+// Flushes a portion, and moves the clock. The sheets that are written stay two slices beside the session: in a struct each would need a clause on
+// its loan in every contract, and a choice between the two has no name in a proof.
 pub fn clear(session: Session, source: Source, part: u32, a: &mut [u32], b: &mut [u32]) -> Cleared
     requires { Rows session (length a.old) (length b.old) }
     ensures { Clears source part session a.old b.old result.session result.rows a.new b.new }
 {
-    let parts = session.parts;
-    let clock = session.clock;
-    let mut t = session;
-    match source {
-        Source::A => {
-            let rows = flush(a, session.a.rows as usize, parts, part, clock);
-            t.clock = clock + rows;
-            Cleared { session: t, rows }
-        }
-        Source::B => {
-            let rows = flush(b, session.b.rows as usize, parts, part, clock);
-            t.clock = clock + rows;
-            Cleared { session: t, rows }
-        }
-    }
+    let parts = Parts {
+        count: session.parts,
+    };
+    let held = session.feeds.of(source).rows as usize;
+    let rows = match source {
+        Source::A => flush(a, held, parts, part, session.clock),
+        Source::B => flush(b, held, parts, part, session.clock),
+    };
+    let session = Session {
+        clock: session.clock + rows,
+        ..session
+    };
+    Cleared { session, rows }
 }
 
+// What comes of a flush that was asked for: the answer, or why it is refused.
+fn try_evict(
+    session: Session,
+    source: Source,
+    part: u32,
+    a: &mut [u32],
+    b: &mut [u32],
+    probe: &[u32],
+) -> Result<Reply, Why>
+    ensures { (out : List ℕ) → leaves (settled session result) (bundle a.new b.new probe.now) out ≡ after_call (world session (bundle a.old b.old probe.now)) (given (Evict source part) out) }
+{
+    let view = BoxView {
+        session,
+        a,
+        b,
+        probe,
+    };
+    view.check_portion(part)?;
+    let Cleared { session, rows } = clear(session, source, part, a, b);
+    Ok(Reply {
+        answer: Answer::Flushed(rows),
+        session,
+    })
+}
+
+// A portion that the caller names is flushed.
 pub fn evict(
     session: Session,
     source: Source,
@@ -50,19 +76,5 @@ pub fn evict(
 ) -> Reply
     ensures { (out : List ℕ) → leaves result (bundle a.new b.new probe.now) out ≡ after_call (world session (bundle a.old b.old probe.now)) (given (Evict source part) out) }
 {
-    let fits = session_fits(session, a, b, probe);
-    match check_portion(session, part, fits) {
-        Verdict::No(why) => Reply {
-            answer: Answer::Refused(why),
-            session,
-        },
-        Verdict::Good => {
-            let cleared = clear(session, source, part, a, b);
-            let t = cleared.session;
-            Reply {
-                answer: Answer::Flushed(cleared.rows),
-                session: t,
-            }
-        }
-    }
+    settled(session, try_evict(session, source, part, a, b, probe))
 }

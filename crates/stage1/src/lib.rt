@@ -3,3 +3,4 @@
 
 pub mod arriving;
 pub mod evicting;
+mod looking;

@@ -1,63 +1,52 @@
 // A drain: the pairs that are still owed, as many as the room holds.
-ghost use Rattle.std.specs.Prelude.{◌≡◌, ◌*◌, ◌≤◌, length};
-ghost use Rattle.sheets.specs.Layout.{room_of};
-ghost use Rattle.rules.specs.Calls.{leaves, drains, after_call};
-ghost use Rattle.rules.specs.World.{Sheets, world, given, bundle, with_rows, with_probe};
+ghost use Rattle.std.specs.Prelude.{◌≡◌, length};
+ghost use Rattle.rules.specs.Calls.{leaves, after_call};
+ghost use Rattle.rules.specs.World.{world, given, bundle};
 ghost use Rattle.rules.specs.declared.Call.TheVariants.{Drain};
-ghost use Rattle.checks.specs.Passed.{Rows, Probes};
+ghost use Rattle.checks.specs.Passed.{settled};
 
-use checks::refusals::{check_drain, session_fits};
-use pairs::walks::{Job, Scope, write_from};
-use rules::{Answer, Reply, Session, Verdict};
-use sheets::layout::room_of;
+use checks::refusals::{BoxView, settled};
+use pairs::walks::Scope;
+use rules::{Answer, Reply, Session, Why};
+use sheets::layout::{PAIR, room_in};
 use stamps::Source;
 
-// A drain that is not refused.
-fn write_owed(
+// What comes of a drain.
+#[tactic(auto, using(checks::proofs::Passing::good_rows, checks::proofs::Passing::good_probes))]
+fn try_drain(
     session: Session,
     a: &[u32],
     b: &[u32],
     probe: &[u32],
     out: &mut [u32],
-    room: usize,
-) -> Reply
-    requires { Rows session (length a.now) (length b.now) × Probes session (length probe.now) × (session.next ≤ session.a.rows * session.b.rows) × (room ≡ room_of (length out.old)) }
-    ensures { (x : Sheets) → let y = with_rows a.now b.now (with_probe probe.now x) in leaves result y out.new ≡ drains (world session y) out.old }
+) -> Result<Reply, Why>
+    ensures { leaves (settled session result) (bundle a.now b.now probe.now) out.new ≡ after_call (world session (bundle a.now b.now probe.now)) (given Drain out.old) }
 {
-    let counts = session.counts;
-    let job = Job {
-        source: Source::A,
-        rows: session.a.rows as usize,
-        others: session.b.rows as usize,
-        parts: session.parts,
-        scope: Scope::All,
+    let room = room_in::<PAIR>(out.len());
+    let view = BoxView {
+        session,
+        a,
+        b,
+        probe,
     };
-    let written = write_from(job, a, b, probe, &counts, session.next as usize, out, room);
-    let mut t = session;
-    t.next = written.next as u32;
+    view.check_drain(room)?;
+    let job = view.job(Source::A, Scope::All);
+    let written = job.write_from(session.next as usize, out, room);
     let pairs = written.count as u32;
-    if written.more {
-        return Reply {
-            answer: Answer::More(pairs),
-            session: t,
-        };
-    }
-    Reply {
-        answer: Answer::Done(pairs),
-        session: t,
-    }
+    let answer = if written.more {
+        Answer::More(pairs)
+    } else {
+        Answer::Done(pairs)
+    };
+    let next = written.next as u32;
+    Ok(Reply {
+        answer,
+        session: Session { next, ..session },
+    })
 }
 
 pub fn drain(session: Session, a: &[u32], b: &[u32], probe: &[u32], out: &mut [u32]) -> Reply
     ensures { leaves result (bundle a.now b.now probe.now) out.new ≡ after_call (world session (bundle a.now b.now probe.now)) (given Drain out.old) }
 {
-    let room = room_of(out.len());
-    let fits = session_fits(session, a, b, probe);
-    match check_drain(session, room, fits) {
-        Verdict::No(why) => Reply {
-            answer: Answer::Refused(why),
-            session,
-        },
-        Verdict::Good => write_owed(session, a, b, probe, out, room),
-    }
+    settled(session, try_drain(session, a, b, probe, out))
 }

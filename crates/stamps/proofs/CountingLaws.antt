@@ -1,16 +1,16 @@
 -- Laws of counting and choosing, and the tests as a ruleset for omega. By induction on the count or the list.
 -- Assumes nothing.
-use Rattle.std.specs.Prelude.{◌≡◌, refl, Bool, true, false, cond, ◌&&◌, ◌≢◌, List, [], ◌∷◌, ◌++◌, map, ℕ, zero, suc, ◌+◌, ◌*◌, ◌-◌, ◌≤◌, ◌<◌, eqb, length, get_or, set}
+use Rattle.std.specs.Prelude.{◌≡◌, refl, Bool, true, false, cond, ◌&&◌, List, [], ◌∷◌, ◌++◌, map, ℕ, zero, suc, ◌+◌, ◌*◌, ◌-◌, ◌≤◌, ◌<◌, eqb, length, get_or, set}
 use Rattle.std.proofs.Common.{sym, ap, ◌∙◌, subst, le_refl, zero-add, add-zero, arith, add-one, length-append, length-set, ext_get_or, get_or-set_same, get_or-set_other, ltb-true, ltb-false, leb-true, leb-false, eqb-true}
-use Rattle.std.proofs.lemmas.Bool.{false≢true, eqb-false}
+use Rattle.std.proofs.lemmas.Bool.{and_parts, eqb-false}
 use Rattle.std.proofs.Math.ListN.{get_or-append}
 use Rattle.std.proofs.lemmas.List.{get_or_at}
 use Rattle.stamps.specs.Counting.{bit, tally, top, values, span, all_of, keep, count}
 
-pub eqb_ne : (i j : ℕ) → eqb i j ≡ false → i ≢ j
-eqb_ne i j = eqb-false i j
+-- std's own, by the names that the crates above have for them
 
-pub ruleset tests = (ltb-true, ltb-false, leb-true, leb-false, eqb-true, eqb_ne)
+-- what a test says, where `tests` of std says nothing of an equation that fails
+pub ruleset tests = (ltb-true, ltb-false, leb-true, leb-false, eqb-true, eqb-false)
 
 -- what holds below n, and at n, holds below n + 1
 pub one_more : (P : ℕ → Type 0) (n : ℕ) → ((k : ℕ) → k < n → P k) → P n → (k : ℕ) → k < suc n → P k
@@ -20,11 +20,6 @@ one_more P n h last k b = go (eqb k n) refl
     go true e = subst P (sym (eqb-true k n e)) last
     go false e = h k (omega (arith, tests))
 
--- both halves of a test that holds
-pub both : (u v : Bool) → (u && v) ≡ true → (u ≡ true) × (v ≡ true)
-both true v h = (refl, h)
-both false v h = absurd (false≢true h)
-
 -- what a list of tests says, test by test
 abbrev pub Each : List Bool → Type 0
 Each [] = Unit
@@ -33,14 +28,7 @@ Each (b ∷ bs) = (b ≡ true) × Each bs
 pub each : (bs : List Bool) → all_of bs ≡ true → Each bs
 each [] h = tt
 each (b ∷ []) h = (h, tt)
-each (b ∷ c ∷ bs) h = let p = both b (all_of (c ∷ bs)) h in (p.0, each (c ∷ bs) p.1)
-
--- five tests, joined from the left
-pub all_five : (a b c d e : Bool) → all_of (a ∷ b ∷ c ∷ d ∷ e ∷ []) ≡ ((((a && b) && c) && d) && e)
-all_five false b c d e = refl
-all_five true false c d e = refl
-all_five true true false d e = refl
-all_five true true true d e = refl
+each (b ∷ c ∷ bs) h = let p = and_parts b (all_of (c ∷ bs)) h in (p.0, each (c ∷ bs) p.1)
 
 -- the second test matters only where the first holds
 pub and_cong : (u : Bool) {v w : Bool} → (u ≡ true → v ≡ w) → (u && v) ≡ (u && w)
@@ -113,7 +101,7 @@ set_values f n q v = ext_get_or 0 _ _ (length-set (values f n) q v ∙ length-va
       where
         go : (u : Bool) → eqb i q ≡ u → get_or (set (values f n) q v) i 0 ≡ cond u v (f i)
         go true e = rw (eqb-true i q e) (get_or-set_same (values f n) q v 0 (rw length-values (omega (arith, tests))))
-        go false e = get_or-set_other (values f n) q i v 0 (eqb_ne i q e) ∙ values-at f n i 0 b
+        go false e = get_or-set_other (values f n) q i v 0 (eqb-false i q e) ∙ values-at f n i 0 b
 
 -- ---- keep
 

@@ -1,11 +1,11 @@
 -- What the layers above may know of keys: matching is symmetric, matching items have one key and one partition, and they are of one lap.
 -- Assumes nothing.
-use Rattle.std.specs.Prelude.{◌≡◌, refl, Bool, true, false, cond, ◌↔◌, ℕ, ◌+◌, ◌*◌, ◌%◌, ◌≤◌, ◌<◌, eqb}
+use Rattle.std.specs.Prelude.{◌≡◌, refl, Bool, true, false, cond, Some, None, ◌↔◌, ℕ, ◌+◌, ◌*◌, ◌%◌, ◌≤◌, ◌<◌, eqb}
 use Rattle.std.proofs.Common.{sym, ap, mod-lt, arith, eqb-true, eq-eqb, ne_eqb}
 use Rattle.std.proofs.lemmas.Bool.{eqb-false}
+use Rattle.std.proofs.lemmas.Option.{cond_some}
 use Rattle.stamps.specs.declared.Message.{Message}
 use Rattle.stamps.specs.declared.Item.{Item}
-use Rattle.stamps.specs.declared.Made.TheVariants.{Good, BadKey}
 use Rattle.stamps.specs.Keys.{in_range, item_of, made, items_match, part_of}
 use Rattle.stamps.proofs.KeysMeaning.{ranges, item_of_is}
 
@@ -55,16 +55,12 @@ match_same m n h g = (one_lap, λ e. rw e (match_own (item_of n)))
         let own : record { heat = m.heat; car = m.car; lap = m.lap } ≡ n = rw (heat, car, lap) in own
 
 -- a message makes an item exactly if it is in range
-pub made_good : (m : Message) (x : Item) → made m ≡ Good x → (in_range m ≡ true) × (x ≡ item_of m)
-made_good m x = go (in_range m)
-  where
-    go : (u : Bool) → cond u (Good (item_of m)) BadKey ≡ Good x → (u ≡ true) × (x ≡ item_of m)
-    go true e = (refl, (cc))
-    go false e = let z : ◌≡◌ {A = ℕ} 0 1 = cc in absurd (omega arith)
+pub made_good : (m : Message) (x : Item) → made m ≡ Some x → (in_range m ≡ true) × (x ≡ item_of m)
+made_good m x e = let p = cond_some (in_range m) (item_of m) x e in (p.0, sym p.1)
 
-pub made_bad : (m : Message) → made m ≡ BadKey → in_range m ≡ false
+pub made_bad : (m : Message) → made m ≡ None → in_range m ≡ false
 made_bad m = go (in_range m)
   where
-    go : (u : Bool) → cond u (Good (item_of m)) BadKey ≡ BadKey → u ≡ false
-    go true e = let z : ◌≡◌ {A = ℕ} 0 1 = cc in absurd (omega arith)
+    go : (u : Bool) → cond u (Some (item_of m)) None ≡ None → u ≡ false
+    go true e = cc
     go false e = refl

@@ -1,9 +1,7 @@
 -- Keys and items: what a feed sends, and what is kept of it.
-use Rattle.std.specs.Prelude.{Bool, cond, List, [], ◌∷◌, ℕ, ◌+◌, ◌*◌, ◌%◌, leb, eqb}
+use Rattle.std.specs.Prelude.{Bool, cond, Option, Some, None, List, [], ◌∷◌, ℕ, ◌+◌, ◌*◌, ◌%◌, leb, eqb}
 use Rattle.stamps.specs.declared.Message.{Message}
 use Rattle.stamps.specs.declared.Item.{Item}
-use Rattle.stamps.specs.declared.Made.{Made}
-use Rattle.stamps.specs.declared.Made.TheVariants.{Good, BadKey}
 use Rattle.stamps.specs.Counting.{all_of}
 
 -- "The key becomes heat x 1000000 + car x 1000 + lap"
@@ -30,6 +28,6 @@ items_match x y = eqb x.key y.key
 unfoldable pub part_of : ℕ → Item → ℕ
 part_of parts x = x.key % parts
 
--- refusal 2, BadKey: a heat, car or lap out of range
-abbrev pub made : Message → Made
-made m = cond (in_range m) (Good (item_of m)) BadKey
+-- refusal 2, BadKey, where there is none: a heat, car or lap out of range
+abbrev pub made : Message → Option Item
+made m = cond (in_range m) (Some (item_of m)) None

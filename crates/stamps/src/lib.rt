@@ -3,11 +3,11 @@
 
 ghost use Rattle.std.specs.Prelude.{◌≡◌, ◌<◌};
 ghost use Rattle.stamps.specs.Keys.{in_range, made, items_match, part_of};
-ghost use Rattle.stamps.specs.Sources.{other};
+ghost use Rattle.stamps.specs.Sources.{other, pick, put};
 ghost use Rattle.stamps.specs.Stamps.{alive, present_at, had_left_when, together, covers};
 
 // A: lap passings. B: pack fault notes.
-#[derive(Clone, Copy)]
+#[derive(Clone, Copy, PartialEq, Eq)]
 pub enum Source {
     A,
     B,
@@ -19,6 +19,35 @@ pub fn other_source(source: Source) -> Source
     match source {
         Source::A => Source::B,
         Source::B => Source::A,
+    }
+}
+
+// One value for each source.
+#[derive(Clone, Copy)]
+pub struct PerSource<T> {
+    pub a: T,
+    pub b: T,
+}
+
+impl<T: Copy> PerSource<T> {
+    // That of a source.
+    pub fn of(&self, source: Source) -> T
+        ensures { result ≡ pick source self.now.a self.now.b }
+    {
+        match source {
+            Source::A => self.a,
+            Source::B => self.b,
+        }
+    }
+
+    // With another value for a source.
+    pub fn with(self, source: Source, value: T) -> Self
+        ensures { result ≡ put source value self }
+    {
+        match source {
+            Source::A => PerSource { a: value, ..self },
+            Source::B => PerSource { b: value, ..self },
+        }
     }
 }
 
@@ -36,7 +65,7 @@ pub struct Item {
     pub key: u32,
 }
 
-// A row: its item, the clock at its arrival, and the clock at its flush, 0 while it is in memory.
+// A row: its item, the clock at its arrival, and the clock at its flush. That is 0 while the row is in memory, and no Option: document 01 keeps it so in the sheet's word.
 #[derive(Clone, Copy)]
 pub struct Row {
     pub item: Item,
@@ -51,35 +80,27 @@ pub struct Entry {
     pub probe: u32,
 }
 
-#[derive(Clone, Copy)]
-pub enum Made {
-    Good(Item),
-    BadKey,
-}
-
 #[tactic(auto, unfolding(crate::specs::Keys::in_range))]
 fn in_range(message: Message) -> bool
     ensures { result ≡ in_range message }
 {
-    (1 <= message.heat)
-        & (message.heat <= 9)
-        & (1 <= message.car)
-        & (message.car <= 999)
-        & (message.lap <= 999)
+    (1..=9).contains(&message.heat) && (1..=999).contains(&message.car) && message.lap <= 999
 }
 
 // The item of a message, if its numbers are in range.
-pub fn item_of(message: Message) -> Made
+#[tactic(auto, unfolding(crate::specs::Keys::in_range, crate::specs::Keys::item_of))]
+pub fn item_of(message: Message) -> Option<Item>
     ensures { result ≡ made message }
 {
     if !in_range(message) {
-        return Made::BadKey;
+        return None;
     }
-    Made::Good(Item {
+    Some(Item {
         key: message.heat * 1000000 + message.car * 1000 + message.lap,
     })
 }
 
+// Matching is a rule on keys, whatever else an item may hold, and so no `==` of items.
 #[tactic(auto, unfolding(crate::specs::Keys::items_match))]
 pub fn items_match(x: Item, y: Item) -> bool
     ensures { result ≡ items_match x y }
@@ -100,21 +121,21 @@ pub fn part_of(parts: u32, item: Item) -> u32
 fn alive_at(t: u32, row: Row) -> bool
     ensures { result ≡ alive t row }
 {
-    (row.dts == 0) | (t < row.dts)
+    row.dts == 0 || t < row.dts
 }
 
 #[tactic(auto, unfolding(crate::specs::Stamps::present_at))]
 fn present_at(t: u32, row: Row) -> bool
     ensures { result ≡ present_at t row }
 {
-    (row.ats <= t) & alive_at(t, row)
+    row.ats <= t && alive_at(t, row)
 }
 
 // In figure 5 of the XJoin report: the range of a, ATS to DTS, ends before that of b begins, or where it begins. With DTS 0 it has not left.
 fn had_left_when(a: Row, b: Row) -> bool
     ensures { result ≡ had_left_when a b }
 {
-    (a.dts != 0) & (a.dts <= b.ats)
+    a.dts != 0 && a.dts <= b.ats
 }
 
 // Rule 1 of 'done before': a had left when b came, or b had left when a came, as in figure 5(b), otherwise together, as in 5(a).
@@ -122,7 +143,7 @@ fn had_left_when(a: Row, b: Row) -> bool
 pub fn were_together(a: Row, b: Row) -> bool
     ensures { result ≡ together a b }
 {
-    !(had_left_when(a, b) | had_left_when(b, a))
+    !(had_left_when(a, b) || had_left_when(b, a))
 }
 
 // Rules 2 and 3 for one entry: the run that left it used the spooled x while y was in memory.
@@ -130,5 +151,5 @@ pub fn were_together(a: Row, b: Row) -> bool
 pub fn run_covers(entry: Entry, x: Row, y: Row) -> bool
     ensures { result ≡ covers entry x y }
 {
-    !alive_at(entry.last, x) & present_at(entry.probe, y)
+    !alive_at(entry.last, x) && present_at(entry.probe, y)
 }

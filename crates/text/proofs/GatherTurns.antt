@@ -1,40 +1,34 @@
 -- The turns of the loop that gathers a line: what is left of the input makes of the buffer what all of it does.
 -- Assumes nothing.
-use mathlib.Core.Path.{◌≡◌, refl, sym, ◌∙◌}
-use mathlib.Core.Bool.{true, false}
-use mathlib.Core.List.{List}
-use Prim.Native.Nat.{ℕ, ◌+◌, ◌≤◌, ◌<◌}
-use native.Mathlib.Omega.{arith}
-use lib.ListN.{length, get_or, drop, drop_of_length-le}
-use borrow.Author.Tests.{eq-eqb, ne_eqb}
-use Rattle.text.specs.Gathering.{kept_len, kept_line, gather, Took}
+use Rattle.std.proofs.Common.{◌≡◌, refl, ap, ℕ, ◌+◌, ◌-◌, ◌≤◌, ◌<◌, List, [], ◌∷◌, ◌++◌, length, take, drop, get_or, drop_of_length-le, arith}
+use Rattle.std.proofs.lemmas.Grind.{common_steps}
+use Rattle.std.specs.Prelude.{◌↔◌, Some, None, Result, Ok, Err, IsOk, OnOk, OnErr}
+use Rattle.arrayvec.specs.ArrayVec.{ArrayVec, array_vec_len}
+use borrow.Author.Tests.{eq-eqb, ne_eqb, lt-ltb, le-ltb}
+use Rattle.text.specs.Gathering.{kept, held, gather}
 use Rattle.text.proofs.FieldTurns.{left_at}
 
-pub record Taking (most : ℕ) (l : List ℕ) (have : ℕ) (input : List ℕ) (from : ℕ) (line : List ℕ) (held i : ℕ) : Type 0 where
-  pub same : gather most line held (drop i input) i ≡ gather most l have (drop from input) from
-  pub past : from ≤ i
+-- a byte that is no LF is kept
+pub gather_byte : (most : ℕ) (l input : List ℕ) (i : ℕ) → i < length input → (get_or input i 0 ≡ 10 → ⊥)
+    → gather most l (drop i input) ≡ gather most (kept most l (get_or input i 0)) (drop (i + 1) input)
+unfolding gather
+gather_byte most l input i b n = rw (left_at input i b, ne_eqb _ _ n)
 
-pub taking_first : (most : ℕ) (l : List ℕ) (have : ℕ) (input : List ℕ) (from : ℕ) → Taking most l have input from l have from
-taking_first most l have input from = record { same = refl; past = omega arith }
+-- an LF ends the line, and what stands behind it is lent
+pub gather_lf : (most : ℕ) (l input : List ℕ) (i : ℕ) → i < length input → get_or input i 0 ≡ 10
+    → gather most l (drop i input) ≡ held l (Some (take (length input - (i + 1)) (drop (i + 1) input)))
+unfolding gather
+gather_lf most l input i b e = let q : take (length input - (i + 1)) (drop (i + 1) input) ≡ drop (i + 1) input = grind (arith, common_steps) in rw (left_at input i b, eq-eqb _ _ e, q)
 
-module _ (most : ℕ) (l : List ℕ) (have : ℕ) (input : List ℕ) (from : ℕ) (line : List ℕ) (held i : ℕ) (t : Taking most l have input from line held i) where
-  pub taking_byte : i < length input → (get_or input i 0 ≡ 10 → ⊥) → Taking most l have input from (kept_line most line held (get_or input i 0)) (kept_len most held) (i + 1)
-  unfolding gather
-  taking_byte b n = record {
-    same = sym (rw (left_at input i b, ne_eqb _ _ n)) ∙ t.same;
-    past = omega (arith, t.past);
-  }
+-- so does the end of the input
+pub gather_end : (most : ℕ) (l input : List ℕ) (i : ℕ) → length input ≤ i → gather most l (drop i input) ≡ held l None
+unfolding gather
+gather_end most l input i b = rw (drop_of_length-le input b)
 
-  pub taking_line : i < length input → get_or input i 0 ≡ 10 → Took most l have input from (record { have = held; next = i + 1; ended = true }) line
-  unfolding gather
-  taking_line b e = record {
-    same = sym (rw (left_at input i b, eq-eqb _ _ e)) ∙ t.same;
-    on = λ g. omega (arith, t.past);
-  }
+-- a byte that is pushed where it fits
+pub kept_by : {E : Type 0} (r : Result (Unit {0}) E) (most : ℕ) (v w : ArrayVec ℕ) (x : ℕ) → (IsOk r ↔ (array_vec_len v < most)) → OnErr r (array_vec_len v ≡ most)
+    → OnOk r (w.items ≡ v.items ++ (x ∷ [])) → OnErr r (w ≡ v) → w.items ≡ kept most v.items x
+kept_by (Ok t) most v w x fits full put same = rw (lt-ltb _ _ (fits.0 refl)) put
+kept_by (Err y) most v w x fits full put same = rw (le-ltb (array_vec_len v) most (omega arith)) (ap (λ (u : ArrayVec ℕ). u.items) same)
 
-  pub taking_all : length input ≤ i → Took most l have input from (record { have = held; next = i; ended = false }) line
-  unfolding gather
-  taking_all b = record {
-    same = sym (rw (drop_of_length-le input b)) ∙ t.same;
-    on = λ g. omega arith;
-  }
+pub ruleset gather_steps = (gather_byte, gather_lf, gather_end, kept_by)

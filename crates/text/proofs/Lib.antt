@@ -1,6 +1,5 @@
-mod FieldTurns
+pub mod FieldTurns
 mod GatherTurns
 pub mod Laws
+pub mod NumberTurns
 pub mod PutTurns
-pub mod Tested
-mod WordTurns

@@ -1,4 +1,5 @@
 -- The fields of a line: "Fields are parted by commas", "blanks cut at both ends".
+use Rattle.std.specs.List.{slice_split}
 use Rattle.std.specs.Prelude.{Bool, cond, ◌||◌, List, [], ◌∷◌, map, ℕ, eqb, get_or}
 
 -- "blanks are space and tab"
@@ -28,15 +29,9 @@ end_cut (x ∷ l) = kept x (end_cut l)
 unfoldable pub trim : List ℕ → List ℕ
 trim l = end_cut (front_cut l)
 
--- x in front of the first text
-abbrev pub grow : ℕ → List (List ℕ) → List (List ℕ)
-grow x [] = (x ∷ []) ∷ []
-grow x (f ∷ fs) = (x ∷ f) ∷ fs
-
 -- the texts between commas: one more than there are commas
-unfoldable pub split : List ℕ → List (List ℕ)
-split [] = [] ∷ []
-split (x ∷ l) = cond (is_comma x) ([] ∷ split l) (grow x (split l))
+abbrev pub split : List ℕ → List (List ℕ)
+split l = slice_split is_comma l
 
 -- the k-th text between commas, from 0; nothing where there are fewer
 abbrev pub raw_at : List ℕ → ℕ → List ℕ

@@ -1,6 +1,6 @@
 -- How bytes become lines: "A line ends at LF or at the end of input, an empty rest giving no line."
-use Rattle.std.specs.Prelude.{◌≡◌, Bool, true, false, cond, List, [], ◌∷◌, ◌++◌, ℕ, ◌+◌, ◌<◌, eqb, ltb, min, length, take, drop, set}
-use Rattle.text.specs.declared.gathering.Gathered.{Gathered}
+use Rattle.std.specs.Prelude.{◌≡◌, Bool, cond, List, [], ◌∷◌, ◌++◌, ℕ, eqb, ltb, length, take, Option, Some, None, MatchOption}
+use Rattle.std.specs.Borrow.{Bor}
 
 -- 10 is LF
 abbrev pub is_lf : ℕ → Bool
@@ -41,36 +41,28 @@ lines_of bytes = lines_from [] bytes
 
 -- ---- a line in its buffer
 
--- a byte put after the `have` that the buffer holds, or dropped where these are `most`: how many it then holds
-abbrev pub kept_len : ℕ → ℕ → ℕ
-kept_len most have = cond (ltb have most) (have + 1) have
-
--- and the buffer
-abbrev pub kept_line : ℕ → List ℕ → ℕ → ℕ → List ℕ
-kept_line most l have x = cond (ltb have most) (set l have x) l
+-- a byte put behind those that the buffer holds, or dropped where these are `most`
+abbrev pub kept : ℕ → List ℕ → ℕ → List ℕ
+kept most l x = cond (ltb (length l) most) (l ++ (x ∷ [])) l
 
 -- a buffer of `most` bytes holds as many first bytes of the line
-pub record Holds (most : ℕ) (l : List ℕ) (have : ℕ) (line : List ℕ) : Type 0 where
-  pub long : length l ≡ most
-  pub size : have ≡ min most (length line)
-  pub same : take have l ≡ take most line
+abbrev pub Holds : ℕ → List ℕ → List ℕ → Type 0
+Holds most l line = l ≡ take most line
 
--- what is handed back, and the buffer
+-- what the buffer holds, and what is behind the LF where one was met
 pub record Held : Type 0 where
-  pub how : Gathered
   pub line : List ℕ
+  pub rest : Option (List ℕ)
 
 -- the two, made of their parts
-abbrev pub held : ℕ → ℕ → Bool → List ℕ → Held
-held have next ended l = record { how = record { have = have; next = next; ended = ended }; line = l }
+abbrev pub held : List ℕ → Option (List ℕ) → Held
+held l rest = record { line = l; rest = rest }
 
--- bytes put into the buffer up to an LF, or all of them; `at` is the place of the first in the input
-unfoldable pub gather : ℕ → List ℕ → ℕ → List ℕ → ℕ → Held
-gather most l have [] at = held have at false l
-gather most l have (x ∷ bytes) at =
-    cond (is_lf x) (held have (at + 1) true l) (gather most (kept_line most l have x) (kept_len most have) bytes (at + 1))
+-- bytes put into the buffer up to an LF, or all of them
+unfoldable pub gather : ℕ → List ℕ → List ℕ → Held
+gather most l [] = held l None
+gather most l (x ∷ bytes) = cond (is_lf x) (held l (Some bytes)) (gather most (kept most l x) bytes)
 
--- what one look at the input from `from` on answers and leaves in the buffer; it gets on wherever there are bytes
-pub record Took (most : ℕ) (l : List ℕ) (have : ℕ) (input : List ℕ) (from : ℕ) (r : Gathered) (e : List ℕ) : Type 0 where
-  pub same : record { how = r; line = e } ≡ gather most l have (drop from input) from
-  pub on : from < length input → from < r.next
+-- what a look at the input answers: what is behind the LF, where one was met
+abbrev pub Took : Held → Option (Bor (List ℕ)) → Type 0
+Took h r = MatchOption r (h.rest ≡ None) (λ rest. h.rest ≡ Some rest.now)

@@ -1,4 +1,3 @@
-pub mod Comparing
 pub mod Fields
 pub mod Gathering
 pub mod Numbers

@@ -1,12 +1,5 @@
--- Texts put into a buffer: plain decimals, and lines of a word and numbers, "parted by one space".
-use Rattle.std.specs.Prelude.{◌≡◌, cond, List, [], ◌∷◌, ◌++◌, ℕ, zero, suc, ◌+◌, ◌*◌, ◌/◌, ◌%◌, ltb, length, take, drop}
-use Rattle.std.proofs.lemmas.List.Edits.{sets}
-
--- a text put into a buffer: it stands in d from `at` on, r is the place after it, and nothing else changed
-pub record Put (d : List ℕ) (at : ℕ) (text : List ℕ) (r : ℕ) (e : List ℕ) : Type 0 where
-  pub next : r ≡ at + length text
-  pub bytes : e ≡ sets d at text
-  pub long : length e ≡ length d
+-- Texts put behind others: plain decimals, and lines of a word and numbers, "parted by one space".
+use Rattle.std.specs.Prelude.{cond, List, [], ◌∷◌, ◌++◌, ℕ, zero, suc, ◌+◌, ◌*◌, ◌/◌, ◌%◌, ltb, take, drop}
 
 -- ---- numbers
 

@@ -1,47 +1,24 @@
 // Cutting an input into lines, a piece of it at a time. A line's buffer keeps as many of its bytes as it has room for: what
 // comes after is dropped.
-ghost use Rattle.std.specs.Prelude.{◌≡◌, length};
-ghost use Rattle.text.specs.Gathering.{kept_len, kept_line, Took};
+ghost use Rattle.std.specs.Prelude.{◌≡◌};
+ghost use Rattle.text.specs.Gathering.{gather, Took};
 
-// How many bytes of the line there are, where the next byte of the input is, and whether the line's LF was met.
-#[derive(Clone, Copy)]
-pub struct Gathered {
-    pub have: usize,
-    pub next: usize,
-    pub ended: bool,
-}
+use arrayvec::ArrayVec;
 
-fn keep(line: &mut [u8], have: usize, byte: u8) -> usize
-    ensures { (result ≡ kept_len (length line.old) have) × (line.new ≡ kept_line (length line.old) line.old have byte) }
+// Bytes of the input go to the line, up to an LF: what stands behind it is handed back, or None where the input holds none.
+#[tactic(auto, using(crate::proofs::GatherTurns::gather_steps))]
+pub fn take_line<'i, const MOST: usize>(
+    line: &mut ArrayVec<u8, MOST>,
+    input: &'i [u8],
+) -> Option<&'i [u8]>
+    ensures line { line.new.items ≡ (gather MOST line.old.items input.now).line }
+    ensures rest { Took (gather MOST line.old.items input.now) result }
 {
-    if have < line.len() {
-        line[have] = byte;
-        return have + 1;
-    }
-    have
-}
-
-// Bytes of the input go to the line, up to an LF or the input's end.
-pub fn take_bytes(line: &mut [u8], have: usize, input: &[u8], from: usize) -> Gathered
-    ensures { Took (length line.old) line.old have input.now from result line.new }
-{
-    let mut held = have;
-    let mut i = from;
-    while i < input.len() {
-        let byte = input[i];
-        i += 1;
+    for (at, &byte) in input.iter().enumerate() {
         if byte == b'\n' {
-            return Gathered {
-                have: held,
-                next: i,
-                ended: true,
-            };
+            return Some(&input[at + 1..]);
         }
-        held = keep(line, held, byte);
+        let _ = line.try_push(byte);
     }
-    Gathered {
-        have: held,
-        next: i,
-        ended: false,
-    }
+    None
 }

@@ -1,7 +1,6 @@
-// Bytes, whatever they say: the fields and numbers of a line, the lines of an input, texts compared, and texts put into buffers.
+// Bytes, whatever they say: the fields and numbers of a line, the lines of an input, and texts put into buffers.
 #![tactic(auto)]
 
-pub mod comparing;
 pub mod fields;
 pub mod gathering;
 pub mod numbers;

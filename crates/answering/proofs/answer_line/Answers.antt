@@ -1,11 +1,18 @@
--- The reply of its turn is put into the buffer.
-use native.Mathlib.Omega.{arith}
+-- The reply of the line's turn fits the text.
+use Rattle.std.proofs.Common.{◌≡◌, ◌≤◌, ap, length, rules, arith}
 use Rattle.rules.specs.World.{bundle}
-use Rattle.answering.proofs.Turns.{says-turn}
+use Rattle.rules.specs.Answers.{written_of}
+use Rattle.reading.specs.Reading.{room_most}
+use Rattle.answering.specs.Answering.{replied, answered}
+use Rattle.answering.proofs.Turns.{answer_fits}
 use Rattle.answering.proofs.answer_line.Goals as goal
 
-pub put_reply-bytes-requires : goal.put_reply-bytes-requires
-put_reply-bytes-requires c = (omega (arith, c.respond-outcome.ensures.1), omega (arith, c.respond-outcome.ensures.1), omega (arith, c.respond-outcome.ensures.1))
+pub put_reply-requires : goal.put_reply-requires
+put_reply-requires c =
+    let h : written_of c.respond-answer.result ≤ room_most = answer_fits c.args.line.now c.args.state.now (bundle c.args.a.now c.args.b.now c.args.probe.now) c.args.out.now _ c.respond-answer.ensures (omega arith) in
+    let e : length c.clear.new.self.items ≡ 0 = ap length c.clear.ensures in
+    (search rules, (omega arith, (omega arith, omega arith)))
 
 pub returns : goal.returns
-returns c = let left = c.respond-outcome.new in says-turn _ _ (bundle c.args.a.now c.args.b.now c.args.probe.now) _ _ _ (bundle left.a left.b left.probe) _ _ _ c.respond-outcome.ensures.0 c.put_reply-bytes.ensures.0 (omega (arith, c.put_reply-bytes.ensures.1, c.respond-outcome.ensures.1))
+unfolding answered
+returns c = rw (c.put_reply.ensures.put, c.clear.ensures) (ap replied c.respond-answer.ensures)

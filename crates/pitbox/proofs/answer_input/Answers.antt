@@ -1,32 +1,23 @@
 -- Each turn adds its bytes, and the last one meets the end of the input.
-use Rattle.std.proofs.Common.{◌≡◌, [], ◌++◌, Bool, true, false, refl}
-use Rattle.std.specs.Prelude.{not, IsTrue, IsFalse}
+use Rattle.std.proofs.Common.{[], ◌++◌, refl, take, arith}
 use Rattle.std.proofs.KnownBytes.{Consumes-nil, Consumes-trans}
-use Rattle.answering.specs.Answering.{unstarted}
+use Rattle.answering.specs.Answering.{silent, unstarted}
+use Rattle.pitbox.specs.Session.{sheets_of}
 use Rattle.pitbox.proofs.Underway.{way_first, way_more, input_ends}
 use Rattle.pitbox.proofs.answer_input.Goals as goal
 
-off_of : (b : Bool) → not b ≡ true → IsFalse b
-off_of true e = cc
-off_of false e = refl
-
-on_of : (b : Bool) → not b ≡ false → IsTrue b
-on_of true e = refl
-on_of false e = cc
-
 pub loop-init : goal.loop-init
-loop-init g c = record { bytes = []; taken = Consumes-nil _; way = rw c.new_state-state.ensures (way_first unstarted _ _ _ _ refl) }
+loop-init g c = record { bytes = []; taken = Consumes-nil _; way = way_first _ _ _ refl c.new.ensures }
 
-pub returns-then-not-going : goal.returns-then-not-going
-returns-then-not-going g c = λ _.
+pub returns-then-n-eq0 : goal.returns-then-n-eq0
+returns-then-n-eq0 g c = λ _.
     let i = c.loop.invariant in
-    let t = c.in_ok-going.ensures in
-    let off : IsFalse c.in_ok-going.going.on = off_of _ c.if-not-going.true in
-    input_ends _ i.bytes t.bytes _ _ _ _ _ i.taken t.taken (t.end off).0 (t.end off).1 (t.rest off _ _ _ i.way)
+    let read = c.in_ok-n.ensures.bytes in
+    input_ends _ i.bytes _ _ _ _ _ _ i.taken (rw c.if-n-eq0.true at read.0) (read.1 c.if-n-eq0.true (omega arith)) i.way c.in_ok-answer_rest.ensures
 
 pub loop-preserved : goal.loop-preserved
 loop-preserved g c =
     let i = c.loop.invariant in
-    let t = c.in_ok-going.ensures in
-    let on : IsTrue c.in_ok-going.going.on = on_of _ c.if-not-going.false in
-    record { bytes = i.bytes ++ t.bytes; taken = Consumes-trans _ _ _ _ _ i.taken t.taken; way = way_more _ i.bytes t.bytes (t.on on _ _ _ i.way) }
+    let whole = silent unstarted (sheets_of c.args.storage.now) c.args.storage.now.out in
+    let piece = take c.in_ok-n.n c.read.new.buf in
+    record { bytes = i.bytes ++ piece; taken = Consumes-trans _ _ _ _ _ i.taken c.in_ok-n.ensures.bytes.0; way = way_more whole i.bytes piece i.way c.in_ok-feed.ensures }

@@ -10,7 +10,7 @@ pub returns : goal.returns
 unfolding line_text
 returns g c =
     let s = c.args.session in
-    let first = s.parts ∷ s.slots ∷ s.limit ∷ s.clock ∷ s.a.rows ∷ s.b.rows ∷ from_bool s.a.closed ∷ from_bool s.b.closed ∷ [] in
+    let first = s.parts ∷ s.slots ∷ s.limit ∷ s.clock ∷ s.feeds.a.rows ∷ s.feeds.b.rows ∷ from_bool s.feeds.a.closed ∷ from_bool s.feeds.b.closed ∷ [] in
     let last = s.next ∷ s.lone.a ∷ s.lone.b ∷ [] in
     on_ok_weaker c.write_all-2.result
     (appends_line _ _ _ _ _ _ c.in_ok-write_all.ensures.bytes

@@ -1,15 +1,12 @@
 -- The pairs, the rows without partner, then the answer.
-use borrow.Author.Rules.{rules}
-use mathlib.Core.Path.{ap}
-use native.Mathlib.Omega.{arith}
-use Rattle.text.specs.Putting.{lines_text}
-use Rattle.text.proofs.PutTurns.{put_is, put_then}
-use Rattle.replies.specs.Printing.{PAIR, LONE, reply_text}
+use Rattle.std.proofs.Common.{append_assoc}
+use Rattle.replies.specs.Printing.{reply_text, pairs_of, singles_of}
 use Rattle.replies.proofs.PrintTurns.{pairs_are, singles_are}
 use Rattle.replies.proofs.put_reply.Goals as goal
 
-pub returns : goal.returns
+pub returns-clause-put : goal.returns-clause-put
 unfolding reply_text
-returns c = let pairs = put_is (ap (lines_text PAIR) (pairs_are c.args.out.now c.pairs_of-pairs.result (omega (arith, c.pairs_of-pairs.ensures)))) c.put_lines-paired.ensures.0 in
-    let singles = put_is (ap (lines_text LONE) (singles_are c.args.out.now c.singles_of-singles.result (omega (arith, c.singles_of-singles.ensures)))) c.put_lines-end.ensures.0 in
-    (rw (← c.pairs_of-pairs.ensures, ← c.singles_of-singles.ensures) (put_then (put_then pairs singles) c.put_answer.ensures.0), search rules)
+returns-clause-put g c =
+    let pairs = pairs_are c.args.out.now (pairs_of c.args.answer) c.requires.pairs in
+    let singles = singles_are c.args.out.now (singles_of c.args.answer) c.requires.singles in
+    simp (c.put_answer.ensures.put, c.put_lines-2.ensures.put, c.put_lines.ensures.put, c.pairs_of.ensures, c.singles_of.ensures, pairs, singles, append_assoc)

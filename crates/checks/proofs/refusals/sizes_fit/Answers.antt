@@ -1,6 +1,7 @@
--- Its tests are those of `sizes_fit`.
-use mathlib.Core.Bool.{and_assoc}
+-- A sheet of B that is too short fails the last test but one.
+use Rattle.std.proofs.Common.{arith}
+use Rattle.std.proofs.lemmas.Grind.{common_steps}
 use Rattle.checks.proofs.refusals.sizes_fit.Goals as goal
 
-pub returns : goal.returns
-returns c = rw (c.rows_need-rows.ensures, c.probe_need-lists.ensures) (simp and_assoc)
+pub returns-else-rows-b : goal.returns-else-rows-b
+returns-else-rows-b c = grind (arith, common_steps)

@@ -1,18 +1,15 @@
--- The count so far is that of the rows passed.
-use borrow.Author.Rules.{rules}
-use mathlib.Core.Path.{◌≡◌, sym, ◌∙◌}
-use native.Mathlib.Omega.{arith}
-use Rattle.sheets.proofs.Counted.{counted_first, counted_one, counted_none}
+-- The chain counts the rows that match and are in memory.
+use Rattle.std.proofs.Common.{◌∙◌, arith, rules, tests}
+use Rattle.std.proofs.lemmas.Iterator.{YieldsList-from_range}
+use Rattle.std.proofs.lemmas.Iterator.Consumers.{YieldsList-at, YieldsList-from_filter, count_from_yields_List}
+use Rattle.sheets.specs.Layout.{row_at}
+use Rattle.sheets.proofs.Ranges.{counted-range}
+use Rattle.pairs.specs.Pairs.{met}
 use Rattle.pairs.proofs.arrivals.count_met.Goals as goal
 
-pub loop-i-init : goal.loop-i-init
-loop-i-init c = (search rules, counted_first _)
-
-pub loop-i-preserved-then-is_met : goal.loop-i-preserved-then-is_met
-loop-i-preserved-then-is_met c = (omega arith, counted_one _ _ _ c.loop-i.invariant.1 (sym c.is_met.ensures ∙ c.if-is_met.true))
-
-pub loop-i-preserved : goal.loop-i-preserved
-loop-i-preserved c = (omega arith, counted_none _ _ _ c.loop-i.invariant.1 (sym c.is_met.ensures ∙ c.if-is_met.false))
-
 pub returns : goal.returns
-returns c = let e : c.loop-i.i ≡ c.args.rows = omega arith in rw (← e) c.loop-i.invariant.1.sum
+returns c =
+    let sheet = c.args.sheet.now in
+    count_from_yields_List c.filter.result _ c.count.ensures.ran
+    (YieldsList-from_filter _ (λ row. met c.args.item (row_at sheet.words.now row)) (YieldsList-at c.filter.ensures.source (YieldsList-from_range 0 sheet.rows sheet.rows (cc) (omega arith))) c.filter.ensures.closure (λ x b q k. search (rules, tests)))
+    ∙ counted-range _ sheet.rows

@@ -2,10 +2,13 @@
 use Rattle.stamps.specs.declared.Source.TheVariants.{A, B}
 use Rattle.rules.specs.World.{world, with_rows}
 use Rattle.stage1.proofs.Flushing.{flush_is}
+use Rattle.stage1.proofs.evicting.clear.Goals.{in-A, in-B}
 use Rattle.stage1.proofs.evicting.clear.Goals as goal
 
-pub returns-in-A : goal.returns-in-A
-returns-in-A c = rw c.in-A.is (record { worlds = λ x. flush_is A _ (world c.args.session (with_rows _ _ x)) _ _ c.flush-rows.ensures; count = c.flush-rows.ensures.count })
-
-pub returns-in-B : goal.returns-in-B
-returns-in-B c = rw c.in-B.is (record { worlds = λ x. flush_is B _ (world c.args.session (with_rows _ _ x)) _ _ c.flush-rows-in-B.ensures; count = c.flush-rows-in-B.ensures.count })
+pub returns : goal.returns
+returns c = elim c.match-source.branch [
+  | in-A w ↦ let f = rw (c.of-held.ensures, w.in-A.is) at w.flush-rows.ensures in
+      rw (w.rows-is, w.a-is, w.b-is, w.in-A.is) (record { worlds = λ x. flush_is A _ (world c.args.session (with_rows _ _ x)) _ _ f; count = f.count })
+  | in-B w ↦ let f = rw (c.of-held.ensures, w.in-B.is) at w.flush-rows-in-B.ensures in
+      rw (w.rows-is, w.a-is, w.b-is, w.in-B.is) (record { worlds = λ x. flush_is B _ (world c.args.session (with_rows _ _ x)) _ _ f; count = f.count })
+]

@@ -1,12 +1,10 @@
 -- What is left of the lines, put from here on, makes the whole.
-use Prim.Native.Nat.{◌+◌, ◌*◌, ◌≤◌, ◌-◌}
-use lib.ListN.{length}
-use Rattle.text.proofs.PutTurns.{Midway}
+use Rattle.std.proofs.Common.{◌≡◌, ◌+◌, ◌-◌, ◌*◌, ◌≤◌, ◌++◌, length}
 use Rattle.text.specs.Putting.{line_need, lines_text, rows_in}
 use Rattle.text.proofs.putting.put_lines.Given as goal
 
-abbrev pub invariant-loop-i : goal.invariant-loop-i
-invariant-loop-i l = (l.i ≤ l.n) × (l.next ≤ l.at + line_need (length l.word) l.width * l.i) × Midway l.initial.buf l.at (lines_text l.word (rows_in l.width l.table 0 l.n)) l.next (lines_text l.word (rows_in l.width l.table l.i (l.n - l.i))) l.buf
-
-abbrev pub decreases-loop-i : goal.decreases-loop-i
-decreases-loop-i l = l.n - l.i
+abbrev pub invariant-loop-row : goal.invariant-loop-row
+invariant-loop-row g l = record {
+  fits : length l.text.items ≤ length l.initial.text.items + line_need (length l.word) l.width * l.row;
+  put : l.initial.text.items ++ lines_text l.word (rows_in l.width l.table 0 l.n) ≡ l.text.items ++ lines_text l.word (rows_in l.width l.table l.row (l.n - l.row));
+}

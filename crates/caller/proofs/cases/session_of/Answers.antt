@@ -1,0 +1,9 @@
+-- The record's parts are those of the numbers.
+use Rattle.std.proofs.Common.{rules}
+use Rattle.caller.proofs.Records.{record_whole}
+use Rattle.caller.proofs.cases.session_of.Goals as goal
+
+pub returns : goal.returns
+returns c =
+    let whole = record_whole c.args.numbers.now c.in_ok-as_array.field-0.now (search rules) c.in_ok-as_array.ensures.cases.same in
+    rw (c.in_ok-flag_of.ensures.value, c.in_ok-flag_of-2.ensures.value) whole

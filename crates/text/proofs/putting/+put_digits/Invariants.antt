@@ -1,5 +1,0 @@
--- The recursion ends: it goes down on `most`.
-use Rattle.text.proofs.putting.+put_digits.Given as goal
-
-abbrev pub decreases-put_digits : goal.decreases-put_digits
-decreases-put_digits l = l.most
