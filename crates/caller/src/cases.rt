@@ -42,7 +42,8 @@ pub const LINE_WORDS: usize = ASKED
 
 // ---- the numbers before the sheets
 
-// The flag of a number: 0 or 1.
+// The flag of a number: 0 or 1. This and the source's are functions and no TryFrom, because an impl for `Source` would have to
+// stand in `stamps`.
 fn flag_of(word: u32) -> Option<bool>
     ensures known { IsSome result ↔ (word ≤ 1) }
     ensures value { IfSome result (λ flag. from_bool flag ≡ word) }
@@ -64,6 +65,16 @@ fn source_of(word: u32) -> Option<Source>
         1 => Some(Source::B),
         _ => None,
     }
+}
+
+// The rows of a source, and whether it is closed.
+fn feed_of(rows: u32, closed: u32) -> Option<Feed>
+    ensures { IfSome result (λ feed. (feed.rows ≡ rows) × (from_bool feed.closed ≡ closed)) }
+{
+    Some(Feed {
+        rows,
+        closed: flag_of(closed)?,
+    })
 }
 
 // The session record of these numbers, which printing it would give.
@@ -88,14 +99,8 @@ fn session_of(numbers: &[u32]) -> Option<Session>
         return None;
     };
     let feeds = PerSource {
-        a: Feed {
-            rows: rows_a,
-            closed: flag_of(closed_a)?,
-        },
-        b: Feed {
-            rows: rows_b,
-            closed: flag_of(closed_b)?,
-        },
+        a: feed_of(rows_a, closed_a)?,
+        b: feed_of(rows_b, closed_b)?,
     };
     Some(Session {
         parts,
@@ -113,6 +118,7 @@ fn session_of(numbers: &[u32]) -> Option<Session>
 }
 
 // The call that these numbers ask for: its kind, and as many arguments as it has; the others may be any. Kind 0 is an opening.
+// Kinds are numbers here because a case's line has nothing else.
 fn call_of(asked: &[u32; ASKED]) -> Option<Call>
     ensures { IfSome result (AsksFor asked.now) }
 {

@@ -25,12 +25,13 @@ impl Place {
         }
     }
 
-    // The place behind one digit more, where the number still has 32 bits.
+    // The place behind one digit more, where the number still has 32 bits. Digits are added by hand because the line is read byte
+    // by byte and no text of it is kept.
     fn with_digit(self, digit: u8) -> Option<Place>
         ensures fits { IsSome result ↔ (10 * value_of self + digit < 2 ^ 32) }
         ensures value { IfSome result (λ place. place ≡ Place.Number (10 * value_of self + digit)) }
     {
-        let value = self.value().checked_mul(10)?.checked_add(digit as u32)?;
+        let value = self.value().checked_mul(10)?.checked_add(u32::from(digit))?;
         Some(Place::Number(value))
     }
 }

@@ -11,6 +11,8 @@ use stage2::running::run;
 use stage3::draining::drain;
 use stage3::listing::lone;
 
+// A call, as it is named. The sheets and the output stay apart, as document 01 lends them: the calls below are lent as `&` what they only read,
+// where a struct of `&mut`s would ask for more.
 pub fn perform(
     session: Session,
     call: Call,

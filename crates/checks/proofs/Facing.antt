@@ -8,7 +8,7 @@ use Rattle.sheets.specs.Layout.{rows_need, probe_need}
 use Rattle.pairs.specs.Pairs.{Table, table_of}
 use Rattle.pairs.specs.declared.walks.Job.{Job}
 use Rattle.pairs.specs.declared.walks.Scope.{Scope}
-use Rattle.rules.specs.World.{World, seen_from}
+use Rattle.rules.specs.World.{World, sheet_of, count_of, seen_from}
 use Rattle.rules.specs.declared.Session.{Session}
 use Rattle.checks.specs.Facing.{JobFrom}
 use Rattle.checks.specs.Passed.{Rows, Probes}
@@ -52,9 +52,25 @@ fits-ready s t own facing probe f g = let h = rows-held s t own facing f in reco
   short = g.short;
 }
 
+-- the table that a job works on is the box, seen from the job's source: its own sheet and the one across from it are the source's and the other's, and its lists are the box's
+pub seen_is : (w : World) (j : Job) → j.own.rows ≡ count_of w j.source → j.own.words.now ≡ sheet_of w j.source
+    → j.facing.rows ≡ count_of w (other j.source) → j.facing.words.now ≡ sheet_of w (other j.source)
+    → j.lists.parts.count ≡ w.session.parts → j.lists.counts.now ≡ w.session.counts → j.lists.probe.now ≡ w.sheets.probe → table_of j ≡ seen_from j.source w
+seen_is w j rows words others facing parts counts probe = rw (rows, words, others, facing, parts, counts, probe)
+
+-- a job that was made so, for a source
+pub job_made : {s : Source} {p : Scope} {w : World} {j : Job} → j.source ≡ s → j.scope ≡ p → j.own.rows ≡ count_of w s → j.own.words.now ≡ sheet_of w s
+    → j.facing.rows ≡ count_of w (other s) → j.facing.words.now ≡ sheet_of w (other s)
+    → j.lists.parts.count ≡ w.session.parts → j.lists.counts.now ≡ w.session.counts → j.lists.probe.now ≡ w.sheets.probe → JobFrom s p w j
+job_made {w = w} {j = j} source scope rows words others facing parts counts probe = record {
+  source = source;
+  scope = scope;
+  table = rw (← source) (seen_is w j (rw source rows) (rw source words) (rw source others) (rw source facing) parts counts probe);
+}
+
 -- what is said of a job's rows and lists is said of the box
-pub seen_is : (s : Source) (p : Scope) (w : World) (j : Job) → JobFrom s p w j → (P : Source → Scope → Table → Type 0) → P j.source j.scope (table_of j) → P s p (seen_from s w)
-seen_is s p w j k P = go j.source j.scope (table_of j) k.source k.scope k.table
+pub seen_by : (s : Source) (p : Scope) (w : World) (j : Job) → JobFrom s p w j → (P : Source → Scope → Table → Type 0) → P j.source j.scope (table_of j) → P s p (seen_from s w)
+seen_by s p w j k P = go j.source j.scope (table_of j) k.source k.scope k.table
   where
     go : (s' : Source) (p' : Scope) (t : Table) → s' ≡ s → p' ≡ p → t ≡ seen_from s w → P s' p' t → P s p (seen_from s w)
     go s' p' t e f g h = rw (e, f, g) at h

@@ -1,6 +1,6 @@
 -- What a call that passed its checks may rely on, and how a call is settled by what they were found to be.
 -- Assumes nothing.
-use Rattle.std.specs.Prelude.{◌≡◌, refl, Result, Ok, Err, List, ◌∷◌, ◌++◌, ℕ, zero, suc, ◌+◌, ◌*◌, ◌≤◌, ◌<◌, leb, length, take}
+use Rattle.std.specs.Prelude.{◌≡◌, refl, Result, Ok, Err, List, ◌∷◌, ◌++◌, ℕ, zero, suc, ◌+◌, ◌≤◌, ◌<◌, leb, length, take}
 use Rattle.std.proofs.Common.{sym, ◌∙◌, arith, add-one, leb-false}
 use Rattle.std.specs.List.{list_all}
 use Rattle.std.specs.Result.{IsErrAnd}
@@ -56,11 +56,7 @@ module _ (w : World) (cs : List Check) (v : Result Unit Why) (f : v ≡ verdict 
   pub good_probes : v ≡ Ok tt → ProbesOf w
   good_probes h = fits-probes w (good_fits h)
 
-  -- what the worker of a drain asks
-  pub drain_fits : {P : Type 0} → v ≡ Ok tt → P → RowsOf w × ProbesOf w × (w.session.next ≤ w.session.feeds.a.rows * w.session.feeds.b.rows) × P
-  drain_fits h p = (good_rows h, good_probes h, (good_fits h).next, p)
-
--- that of a run
+-- what the worker of a run asks
 pub portion_fits : (w : World) (q : ℕ) (v : Result Unit Why) → v ≡ verdict (sheet_check (session_fits w) ∷ portion_checks w.session q) → v ≡ Ok tt
     → RowsOf w × ProbesOf w × (q < w.session.parts)
 portion_fits w q v f h =

@@ -20,12 +20,12 @@ impl<'s> BoxView<'s> {
         ensures rows { result.rows ≡ count_of (viewed self.now) source }
         ensures few { result.rows ≤ 4096 }
     {
+        let sheets = PerSource {
+            a: self.a,
+            b: self.b,
+        };
         Sheet {
-            words: PerSource {
-                a: self.a,
-                b: self.b,
-            }
-            .of(source),
+            words: sheets.of(source),
             rows: self.session.feeds.of(source).rows as usize,
         }
     }

@@ -11,7 +11,7 @@ use rules::{Answer, Reply, Session, Why};
 use sheets::layout::{LISTS, ROW, words_of};
 use stamps::{Item, Message, Source};
 
-// P, M and N are in range, and the sheets are long enough for them.
+// P, M and N are in range, and the sheets are long enough for them. An opening asks this before there is a record, so there is no view yet.
 pub fn sizes_fit(parts: u32, slots: u32, limit: u32, a: &[u32], b: &[u32], probe: &[u32]) -> bool
     ensures { result ≡ sizes_fit parts slots limit (lengths (bundle a.now b.now probe.now)) }
 {

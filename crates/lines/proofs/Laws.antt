@@ -4,7 +4,7 @@ use Rattle.std.specs.Borrow.{Bor}
 use Rattle.std.specs.Option.{option_map}
 use Rattle.std.specs.Prelude.{Option}
 use Rattle.text.specs.Gathering.{Held, Took}
-use Rattle.text.proofs.Laws.{took_one_result}
+use Rattle.text.proofs.Laws.{rest_one_result}
 use Rattle.rules.specs.World.{Sheets}
 use Rattle.rules.specs.declared.Session.{Session}
 use Rattle.answering.specs.Answering.{Left, left}
@@ -14,4 +14,4 @@ use Rattle.lines.specs.Serving.{begun_after}
 pub serves_one_result : (h : Held) (r r' : Option (Bor (List ℕ))) {x : Left} {t t' : Option Session} {z z' : Sheets} {o o' e e' l l' : List ℕ}
     → left t z o e ≡ x → l ≡ begun_after h → Took h r → left t' z' o' e' ≡ x → l' ≡ begun_after h → Took h r'
     → (t ≡ t') × (z ≡ z') × (o ≡ o') × (e ≡ e') × (l ≡ l') × (option_map (λ rest. rest.now) r ≡ option_map (λ rest. rest.now) r')
-serves_one_result h r r' p a u q b v = let (t, z, o, e) = says_one_result p q in (t, z, o, e, a ∙ sym b, took_one_result h r r' u v)
+serves_one_result h r r' p a u q b v = let (t, z, o, e) = says_one_result p q in (t, z, o, e, a ∙ sym b, rest_one_result h r r' u v)

@@ -1,14 +1,6 @@
 -- Lone calls hand out the rows without partner: their numbers rise, and what a list of them leaves out is what is left.
 -- Assumes nothing.
-use mathlib.Core.Path.{◌≡◌, refl, sym, ap, ◌∙◌}
-use mathlib.Core.Bool.{Bool, true, false, not, ◌&&◌}
-use mathlib.Core.List.{List, [], ◌∷◌, map}
-use Prim.Native.Nat.{ℕ, zero, suc, ◌+◌, ◌*◌, ◌≤◌, ◌<◌}
-use native.Mathlib.Nat.{zero-add, le_refl}
-use native.Mathlib.Omega.{arith}
-use lib.Dec.{ltb, leb, eqb}
-use lib.ListN.{take, drop}
-use borrow.Author.Tests.{lt-ltb, le-ltb, eqb-true, eq-eqb}
+use Rattle.std.proofs.Common.{◌≡◌, refl, sym, ap, ◌∙◌, Bool, true, false, not, ◌&&◌, List, [], ◌∷◌, map, ℕ, zero, suc, ◌+◌, ◌*◌, ◌≤◌, ◌<◌, zero-add, le_refl, ltb, leb, eqb, take, drop, lt-ltb, le-ltb, eqb-true, eq-eqb, arith}
 use Rattle.stamps.specs.Counting.{bit, span, count}
 use Rattle.stamps.proofs.CountingLaws.{tests, count-keep, keep_cong}
 use Rattle.sheets.specs.Layout.{Single}

@@ -1,17 +1,8 @@
 -- The turns of the loops that walk the grid of pairs: what is left from the next spot on is what was left, less what was written.
 -- Assumes nothing.
-use mathlib.Core.Path.{◌≡◌, refl, sym, ap, ◌∙◌}
-use mathlib.Core.Bool.{false}
-use mathlib.Core.List.{List, [], ◌∷◌, ◌++◌, map}
-use Prim.Native.Nat.{ℕ, zero, suc, ◌+◌, ◌*◌, ◌-◌, ◌^◌, ◌≤◌, ◌<◌}
-use native.Mathlib.Nat.{sub-zero, suc-mul, mul-zero, le_trans, mul-le-mul_right}
-use native.Mathlib.Omega.{arith}
-use native.Mathlib.Numerals.{add-one}
-use lib.Dec.{ltb}
-use lib.ListN.{length, length-append}
-use lib.Seq.{take-nil}
-use borrow.Author.Tests.{le-ltb}
-use Rattle.std.specs.Prelude.{None, Some}
+use Rattle.std.proofs.Common.{◌≡◌, refl, sym, ap, ◌∙◌, false, List, [], ◌∷◌, ◌++◌, map, ℕ, zero, suc, ◌+◌, ◌*◌, ◌-◌, ◌^◌, ◌≤◌, ◌<◌, suc-mul, mul-zero, le_trans, mul-le-mul_right, add-one, ltb, length, length-append, le-ltb, None, Some, arith}
+use Rattle.std.proofs.Math.Nat.{sub-zero}
+use Rattle.std.proofs.Math.Seq.{take-nil}
 use Rattle.std.proofs.lemmas.Iterator.{YieldsList}
 use Rattle.std.proofs.lemmas.Iterator.Consumers.{YieldsList-from_shown}
 use Rattle.stamps.specs.declared.Source.{Source}
@@ -44,9 +35,6 @@ module _ (scope : Scope) (t : Table) where
   pub left-every : left_from scope t 0 0 ≡ wanted_pairs scope t
   unfolding wanted_pairs
   left-every = rw (sub-zero, ← down-left)
-
-  pub left_none : (i j : ℕ) → t.a.count ≤ i → left_from scope t i j ≡ []
-  left_none i j h = let e : t.a.count - i ≡ 0 = omega arith in rw e
 
   -- by columns, the rest of a row and the rows below it
   left_split : (i j : ℕ) → i < t.a.count → left_from scope t i j

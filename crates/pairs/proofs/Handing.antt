@@ -1,16 +1,9 @@
 -- A list handed out in rooms: its places rise, so the position after a room parts what was handed out by then from what is left.
 -- By induction on the list. Assumes nothing.
-use mathlib.Core.Path.{◌≡◌, refl, sym, ap, ap₂, ◌∙◌}
-use mathlib.Core.Bool.{Bool, true, false, cond, not}
-use mathlib.Core.Logic.{◌≢◌}
-use mathlib.Core.List.{List, [], ◌∷◌, ◌++◌, map}
-use Prim.Native.Nat.{ℕ, zero, suc, ◌+◌, ◌*◌, ◌≤◌, ◌<◌}
-use native.Mathlib.Nat.{le_refl, zero-add, one-mul}
-use native.Mathlib.Omega.{arith}
-use lib.Dec.{ltb, leb, eqb}
-use lib.ListN.{length, length-map, take, drop}
-use lib.Seq.{take-nil, drop-nil}
-use borrow.Author.Tests.{lt-ltb, le-ltb, lt-leb, le-leb}
+use Rattle.std.proofs.Common.{◌≡◌, refl, sym, ap, ap₂, ◌∙◌, Bool, true, false, cond, not, ◌≢◌, List, [], ◌∷◌, ◌++◌, map, ℕ, zero, suc, ◌+◌, ◌*◌, ◌≤◌, ◌<◌, le_refl, zero-add, one-mul, ltb, leb, eqb, length, take, drop, lt-ltb, le-ltb, le-leb, arith}
+use Rattle.std.proofs.Math.ListN.{length-map}
+use Rattle.std.proofs.Math.Seq.{take-nil, drop-nil}
+use Rattle.std.proofs.lemmas.Bool.{lt-leb}
 use Rattle.stamps.specs.Counting.{bit, keep, count, missing_in}
 use Rattle.stamps.proofs.CountingLaws.{tests, keep-map, count-keep, keep_cong}
 use Rattle.pairs.specs.Rooms.{on_from, past, onward, put_all, read_all}
@@ -152,10 +145,9 @@ module _ {X : Type 0} (place : X → ℕ) where
 
 -- ---- what is missing is what is left
 
+-- std's law, turned round
 pub take-map : {X Y : Type 0} (f : X → Y) (r : ℕ) (xs : List X) → map f (take r xs) ≡ take r (map f xs)
-take-map f zero xs = refl
-take-map f (suc r) [] = refl
-take-map f (suc r) (x ∷ xs) = ap (λ (l : List _). f x ∷ l) (take-map f r xs)
+take-map f r xs = sym (Rattle.std.proofs.lemmas.List.take-map f r xs)
 
 -- of what is told of a list, another one leaves out what it has not
 pub missing-left : {X Y : Type 0} (one : X → X → Bool) (same : Y → Y → Bool) (f : X → Y) → ((x : X) → one x x ≡ true) → (l : List Y) (out : X → Bool) (xs : List X)

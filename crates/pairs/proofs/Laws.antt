@@ -1,14 +1,10 @@
 -- What the layers above may know of the walks: which pairs they write, and how many.
 -- By induction on the lists. Assumes nothing.
-use mathlib.Core.Path.{◌≡◌, refl, sym, ap, ap₂, ◌∙◌, fun_ext}
-use mathlib.Core.Bool.{Bool, true, false, cond, not, ◌&&◌, and-true, and-false}
-use mathlib.Core.List.{List, [], ◌∷◌, ◌++◌, map}
-use Prim.Native.Nat.{ℕ, zero, suc, ◌*◌, ◌≤◌}
-use native.Mathlib.Nat.{suc-mul, le_trans, mul-le-mul_left, mul-le-mul_right}
-use native.Mathlib.Omega.{arith}
-use lib.Dec.{leb, eqb, leb-zero}
-use lib.ListN.{length, length-append, length-map}
-use borrow.Author.Tests.{eq-eqb, ne_eqb}
+use Rattle.std.proofs.Common.{◌≡◌, refl, sym, ap, ap₂, ◌∙◌, Bool, true, false, cond, not, ◌&&◌, List, [], ◌∷◌, ◌++◌, map, ℕ, zero, suc, ◌*◌, ◌≤◌, suc-mul, le_trans, mul-le-mul_left, mul-le-mul_right, leb, eqb, length, length-append, eq-eqb, ne_eqb, arith}
+use Rattle.std.proofs.Math.Bool.{and-true, and-false}
+use Rattle.std.proofs.Math.Dec.{leb-zero}
+use Rattle.std.proofs.Math.ListN.{length-map}
+use Rattle.std.proofs.Math.Path.{fun_ext}
 use Rattle.stamps.specs.declared.Item.{Item}
 use Rattle.stamps.specs.declared.Row.{Row}
 use Rattle.stamps.specs.Counting.{tally, span, keep}

@@ -1,21 +1,12 @@
 -- The turns of the loops that look for rows without partner and write them.
 -- Assumes nothing.
-use mathlib.Core.Path.{◌≡◌, refl, sym, ap, ◌∙◌}
-use mathlib.Core.Bool.{Bool, true, false, not, true≢false}
-use mathlib.Core.List.{List, []}
-use Prim.Native.Nat.{ℕ, zero, suc, ◌+◌, ◌-◌, ◌≤◌, ◌<◌}
-use native.Mathlib.Nat.{zero-add}
-use native.Mathlib.Omega.{arith}
-use native.Mathlib.Numerals.{add-one}
-use lib.Dec.{leb}
-use lib.ListN.{length}
-use borrow.Author.Tests.{le-leb, lt-leb, eq-eqb, ne_eqb}
+use Rattle.std.proofs.Common.{◌≡◌, refl, sym, ap, ◌∙◌, Bool, true, false, not, true≢false, List, [], ℕ, zero, suc, ◌+◌, ◌-◌, ◌≤◌, ◌<◌, zero-add, add-one, leb, length, le-leb, eq-eqb, ne_eqb, Option, None, Some, is_some, arith}
+use Rattle.std.proofs.lemmas.Bool.{lt-leb}
 use Rattle.stamps.specs.Counting.{tally, span, keep}
 use Rattle.stamps.proofs.CountingLaws.{keep_comm, tally_mono, length-keep, length-span, span_all, span_skip}
 use Rattle.stamps.specs.Keys.{items_match}
 use Rattle.sheets.specs.Layout.{put_single}
 use Rattle.sheets.proofs.LayoutLaws.{length-put_single}
-use Rattle.std.specs.Prelude.{Option, None, Some, is_some}
 use Rattle.pairs.specs.Lones.{Items, is_lone, lones, number, lones_from, single, walked, lones_left, LoneStep}
 use Rattle.pairs.specs.declared.lone_rows.LoneRows.{LoneRows}
 use Rattle.pairs.specs.Pairs.{NextIs}

@@ -1,7 +1,13 @@
 -- The turns of the walks that look for pairs: what is left from the next one on.
 -- Assumes nothing.
-use Rattle.std.proofs.Common.{◌≡◌, refl, sym, ap, ◌∙◌, Bool, true, false, List, [], ◌∷◌, ℕ, zero, suc, ◌+◌, ◌-◌, ◌≤◌, ◌<◌, Option, None, Some, add-zero, arith}
-use native.Mathlib.Nat.{sub-zero}
+use Rattle.std.proofs.Common.{◌≡◌, refl, sym, ap, ◌∙◌, Bool, true, false, List, [], ◌∷◌, ℕ, zero, suc, ◌+◌, ◌-◌, ◌≤◌, ◌<◌, Option, None, Some, MatchOption, add-zero, arith}
+use Rattle.std.proofs.Math.Nat.{sub-zero}
+use Rattle.std.specs.Bool.{⊤}
+use Rattle.std.specs.Fn.{CalledAt}
+use Rattle.std.specs.Iterator.{YieldsThen}
+use Rattle.std.specs.List.{FoldsTo}
+use Rattle.std.specs.Range.{range_steps}
+use Rattle.std.proofs.lemmas.Iterator.{first_from_Range}
 use Rattle.stamps.specs.declared.Source.{Source}
 use Rattle.stamps.specs.declared.Item.{Item}
 use Rattle.stamps.specs.declared.Row.{Row}
@@ -68,6 +74,14 @@ module _ (t : ℕ → Bool) (n from : ℕ) where
 pub next_cong : (t u : ℕ → Bool) (n from : ℕ) (r : Option ℕ) → ((k : ℕ) → t k ≡ u k) → NextIs u n from r → NextIs t n from r
 next_cong t u n from None e h = λ k a b. e k ∙ h k a b
 next_cong t u n from (Some i) e h = (h.0, h.1, e i ∙ h.2, λ k a b. e k ∙ h.3 k a b)
+
+-- the chain that looks for it, where its closure decides the test
+pub next-chain : {F : Type 0} {g : _} (f : F) (u : _) (t : ℕ → Bool) (n from : ℕ) (r : Option ℕ)
+    → (xs : List ℕ) × (j : F) × YieldsThen (range_steps (λ a b. b - a) (λ a b. b ≡ a + 1)) (record { start = from; end = n }) xs r u
+    × FoldsTo (λ p x q. CalledAt g p x false q) f xs j × MatchOption r ⊤ (λ x. (h : F) × CalledAt g j x true h)
+    → ((x : ℕ) (b : Bool) (q : F) → CalledAt g f x b q → (q ≡ f) × (b ≡ t x)) → NextIs t n from r
+next-chain f u t n from r ran call = first_from_Range _ u f r (λ i. t i ≡ true) (λ i. t i ≡ false) ran
+    (λ x q k. sym (call x true q k).1) (λ x q k. ((call x false q k).0, sym (call x false q k).1))
 
 -- ---- one row of a job
 

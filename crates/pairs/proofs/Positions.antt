@@ -1,13 +1,8 @@
 -- The pairs from a position on are those left from its row and column on: the rows before it fall away, and its own is cut.
 -- Assumes nothing.
-use mathlib.Core.Path.{◌≡◌, refl, sym, ap, ap₂, ◌∙◌}
-use mathlib.Core.Bool.{Bool}
-use mathlib.Core.List.{List, [], ◌++◌, map}
-use Prim.Native.Nat.{ℕ, zero, suc, ◌+◌, ◌*◌, ◌-◌, ◌/◌, ◌%◌, ◌≤◌, ◌<◌}
-use native.Mathlib.Nat.{le_trans, zero-add, add-zero, suc-mul, mul_comm, mul-le-mul_right, div-add-mod', mod-lt, div-le_of_le-mul, pos_of_ne-zero}
-use native.Mathlib.Omega.{arith}
-use lib.Dec.{leb}
-use borrow.Author.Tests.{le-leb, lt-leb}
+use Rattle.std.proofs.Common.{◌≡◌, refl, sym, ap, ap₂, ◌∙◌, Bool, List, [], ◌++◌, map, ℕ, zero, suc, ◌+◌, ◌*◌, ◌-◌, ◌/◌, ◌%◌, ◌≤◌, ◌<◌, le_trans, zero-add, add-zero, suc-mul, mul_comm, mul-le-mul_right, div-add-mod', mod-lt, pos_of_ne-zero, leb, le-leb, arith}
+use Rattle.std.proofs.Math.Nat.{div-le_of_le-mul}
+use Rattle.std.proofs.lemmas.Bool.{lt-leb}
 use Rattle.stamps.specs.Counting.{span, keep}
 use Rattle.stamps.proofs.CountingLaws.{keep_append, keep_comm, keep-map, span_all, span_skip}
 use Rattle.stamps.specs.declared.Source.{Source}

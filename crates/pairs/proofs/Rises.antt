@@ -1,17 +1,10 @@
 -- Drains hand out the pairs that are owed: their positions rise, and what is missing of the join is what is owed.
 -- Assumes nothing.
-use mathlib.Core.Path.{◌≡◌, refl, sym, ap, ◌∙◌}
-use mathlib.Core.Bool.{Bool, true, false, not, ◌&&◌, ◌||◌, and-true, and-false}
-use mathlib.Core.List.{List}
-use Prim.Native.Nat.{ℕ, zero, suc, ◌+◌, ◌*◌, ◌≤◌, ◌<◌}
-use native.Mathlib.Nat.{add-zero, zero-add, add-suc, suc-add, zero-mul, suc-mul, mul-le-mul_right, le_refl}
-use native.Mathlib.Omega.{arith}
-use lib.Dec.{ltb, leb}
-use lib.ListN.{take, drop}
-use borrow.Author.Tests.{lt-ltb, le-ltb}
+use Rattle.std.proofs.Common.{◌≡◌, refl, sym, ap, ◌∙◌, Bool, true, false, not, ◌&&◌, ◌||◌, List, ℕ, zero, suc, ◌+◌, ◌*◌, ◌≤◌, ◌<◌, add-zero, zero-add, add-suc, suc-add, zero-mul, suc-mul, mul-le-mul_right, le_refl, ltb, leb, take, drop, lt-ltb, le-ltb, arith}
+use Rattle.std.proofs.Math.Bool.{and-true, and-false}
+use Rattle.std.proofs.lemmas.Bool.{and_parts}
 use Rattle.stamps.specs.declared.Source.TheVariants.{A}
 use Rattle.stamps.specs.Counting.{bit, keep, count}
-use Rattle.std.proofs.lemmas.Bool.{and_parts}
 use Rattle.stamps.proofs.CountingLaws.{tests, keep-keep, count-keep, keep_cong}
 use Rattle.sheets.specs.Layout.{Told, Pair}
 use Rattle.sheets.proofs.LayoutLaws.{shown_own}

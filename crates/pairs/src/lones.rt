@@ -14,7 +14,12 @@ use stamps::Item;
 fn next_match(sheet: &Sheet, from: usize, item: Item) -> Option<usize>
     ensures { NextIs (λ j. items_match item (row_at sheet.now.words.now j).item) sheet.now.rows from result }
 {
-    (from..sheet.rows).find(|&row| stamps::items_match(item, sheet.item(row)))
+    for row in from..sheet.rows {
+        if stamps::items_match(item, sheet.item(row)) {
+            return Some(row);
+        }
+    }
+    None
 }
 
 // Row number row matches no row across.

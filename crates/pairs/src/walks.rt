@@ -9,7 +9,7 @@ use sheets::parts::Parts;
 use stamps::{Row, Source};
 
 // The pairs looked at: all, as a drain does, or the spooled rows of a portion with memory rows, as a run does.
-#[derive(Clone, Copy)]
+#[derive(Clone, Copy, PartialEq, Eq)]
 pub enum Scope {
     All,
     Portion(u32),
@@ -90,7 +90,12 @@ impl Job<'_> {
     ) -> Option<usize>
         ensures { NextIs (λ j. due self.now.scope (entries_of mine.now) (entries_of theirs.now) x (row_at self.now.facing.words.now j)) self.now.facing.rows from result }
     {
-        (from..self.facing.rows).find(|&row| self.is_due(mine, theirs, x, row))
+        for row in from..self.facing.rows {
+            if self.is_due(mine, theirs, x, row) {
+                return Some(row);
+            }
+        }
+        None
     }
 
     // The first facing row from the spot on that makes a wanted pair with the spot's row.

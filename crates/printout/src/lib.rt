@@ -52,7 +52,7 @@ pub fn print_line<W: Write>(out: &mut W, word: &[u8], numbers: &[u32]) -> io::Re
     out.write_all(b"\n")
 }
 
-// An answer's kind, by the number that the line has for it, and its own number; a refusal's is its code.
+// An answer's kind, and its own number; a refusal's is its code. The line has numbers alone, so it is a number that tells the kind.
 fn told_of(answer: Answer) -> (u32, u32)
     ensures { result ≡ told_of answer }
 {
@@ -95,8 +95,8 @@ fn print_session<W: Write>(out: &mut W, session: Session) -> io::Result<()>
             session.clock,
             session.feeds.a.rows,
             session.feeds.b.rows,
-            session.feeds.a.closed as u32,
-            session.feeds.b.closed as u32,
+            u32::from(session.feeds.a.closed),
+            u32::from(session.feeds.b.closed),
         ],
     )?;
     print_numbers(out, &session.counts)?;

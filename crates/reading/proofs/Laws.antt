@@ -1,17 +1,8 @@
 -- What the layers above may know of reading: a line in its buffer reads as the whole line, and what it asks for has a room of at
 -- most 512. By cases on what it asks for. Assumes nothing.
-use mathlib.Core.Path.{◌≡◌, refl, sym, ap, ◌∙◌, subst}
-use mathlib.Core.Bool.{Bool, true, false, cond}
-use mathlib.Core.List.{List}
-use Prim.Native.Nat.{ℕ, ◌≤◌}
-use native.Mathlib.Omega.{arith}
-use lib.Dec.{leb, eqb}
-use lib.ListN.{length, take}
-use lib.Seq.{take_all, length-take-le}
-use borrow.Author.Tests.{leb-true, leb-false}
-use Rattle.std.specs.Prelude.{Option, Some, None}
+use Rattle.std.proofs.Common.{◌≡◌, refl, sym, ap, ◌∙◌, subst, Bool, true, false, cond, List, ℕ, ◌≤◌, arith, leb, eqb, length, take, take_all, length-take-le, leb-true, leb-false, Option, Some, None, option_map, option_and_then}
 use Rattle.std.specs.Bool.{then_some}
-use Rattle.std.specs.Option.{option_map, option_and_then, option_zip}
+use Rattle.std.specs.Option.{option_zip}
 use Rattle.stamps.specs.declared.Source.{Source}
 use Rattle.text.specs.Fields.{fields, field_at}
 use Rattle.text.specs.Gathering.{Holds}

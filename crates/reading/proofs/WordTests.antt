@@ -1,11 +1,8 @@
 -- A text is a word if its length and its bytes are the word's. Assumes nothing.
-use Rattle.std.proofs.Common.{◌≡◌, refl, sym, ◌∙◌, ℕ, suc, ◌+◌, ◌≤◌, ◌<◌, List, [], ◌∷◌, length, drop, get_or, Bool, true, false, ◌&&◌, arith}
-use Rattle.text.proofs.FieldTurns.{left_at}
+use Rattle.std.proofs.Common.{◌≡◌, refl, sym, ◌∙◌, ℕ, suc, ◌+◌, ◌≤◌, ◌<◌, List, [], ◌∷◌, length, drop, get_or, Bool, true, false, ◌&&◌, arith, eq-eqb, ne_eqb, ltb-true, ltb-false, eqb, ltb, drop_of_length-le}
+use Rattle.std.proofs.Math.Bool.{and-false}
+use Rattle.std.proofs.lemmas.List.{drop_more}
 use Rattle.std.specs.Str.{bytes_eq}
-use borrow.Author.Tests.{eq-eqb, ne_eqb, ltb-true, ltb-false}
-use lib.Dec.{eqb, ltb}
-use lib.ListN.{drop_of_length-le}
-use mathlib.Core.Bool.{and-false}
 
 -- the bytes of a text from place k on are these
 abbrev pub reads : List ℕ → ℕ → List ℕ → Bool
@@ -20,14 +17,14 @@ at_place : (l : List ℕ) (k : ℕ) (w : List ℕ) → k ≤ length l → bytes_
 at_place l k [] h = go (ltb k (length l)) refl
   where
     go : (u : Bool) → ltb k (length l) ≡ u → bytes_eq (drop k l) [] ≡ (eqb (length l) (k + 0) && true)
-    go true e = let b : k < length l = ltb-true k (length l) e in rw (left_at l k b, ne_eqb (length l) (k + 0) (omega arith))
+    go true e = let b : k < length l = ltb-true k (length l) e in rw (drop_more l k 0 b, ne_eqb (length l) (k + 0) (omega arith))
     go false e = let b : length l ≤ k = ltb-false k (length l) e in rw (drop_of_length-le l b, eq-eqb (length l) (k + 0) (omega arith))
 at_place l k (x ∷ w) h = go (ltb k (length l)) refl (at_place l (k + 1) w)
   where
     go : (u : Bool) → ltb k (length l) ≡ u → (k + 1 ≤ length l → bytes_eq (drop (k + 1) l) w ≡ (eqb (length l) (k + 1 + length w) && reads l (k + 1) w))
         → bytes_eq (drop k l) (x ∷ w) ≡ (eqb (length l) (k + suc (length w)) && (eqb (get_or l k 0) x && reads l (k + 1) w))
     go true e ih = let b : k < length l = ltb-true k (length l) e in let q : k + suc (length w) ≡ k + 1 + length w = omega arith in
-        rw (left_at l k b, ih (omega arith), q) (and_swap (eqb (length l) (k + 1 + length w)) (eqb (get_or l k 0) x) (reads l (k + 1) w))
+        rw (drop_more l k 0 b, ih (omega arith), q) (and_swap (eqb (length l) (k + 1 + length w)) (eqb (get_or l k 0) x) (reads l (k + 1) w))
     go false e ih = let b : length l ≤ k = ltb-false k (length l) e in rw (drop_of_length-le l b, ne_eqb (length l) (k + suc (length w)) (omega arith))
 
 pub bytes_eq-reads : (l w : List ℕ) → bytes_eq l w ≡ (eqb (length l) (length w) && reads l 0 w)

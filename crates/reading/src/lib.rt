@@ -93,13 +93,15 @@ fn read_sourced(line: &[u8]) -> Option<(Source, u32)>
     source_at(line, 1).zip(number_at(line, 2))
 }
 
-// A line each for a portion to evict and one to run: one function that took the call to make would need a clause on what it makes, longer than both.
+// A portion to evict. `run_line` differs in the call alone, but a function for both that took a closure to make the call would need
+// a clause on what the closure makes, and would be longer than the two.
 fn evict_line(line: &[u8]) -> Option<Line>
     ensures { result ≡ evict_line (fields line.now) }
 {
     read_sourced(line).map(|(source, part)| Line::Ask(Call::Evict(source, part)))
 }
 
+// A portion to run.
 fn run_line(line: &[u8]) -> Option<Line>
     ensures { result ≡ run_line (fields line.now) }
 {

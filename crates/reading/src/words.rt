@@ -16,7 +16,7 @@ pub enum Word {
     Lone,
 }
 
-// "A source is A or B."
+// "A source is A or B." No `TryFrom`: it would stand in `stamps`, which knows no bytes.
 #[tactic(auto, using(crate::proofs::WordTests::word_tests), unfolding(crate::specs::Words::source_of))]
 pub fn read_source(text: &[u8]) -> Option<Source>
     ensures { result ≡ source_of text.now }

@@ -11,7 +11,7 @@ use rules::{Answer, Why};
 use sheets::layout::{PAIR, SINGLE};
 use text::putting::{put_line, put_lines, put_said};
 
-// The number that document 01 gives a refusal. A `u32::from(why)` would not say that it is this number.
+// The number that document 01 gives a refusal. No `From`: it would stand in `rules`, which holds types alone.
 pub fn code_of(why: Why) -> u32
     ensures { result ≡ code_of why }
 {
@@ -88,7 +88,9 @@ pub fn put_reply<const N: usize>(text: &mut ArrayVec<u8, N>, out: &[u32], answer
     ensures put { text.new.items ≡ text.old.items ++ reply_text out.now answer }
     ensures fits { array_vec_len text.new ≤ array_vec_len text.old + reply_most (written_of answer) }
 {
-    put_lines(text, b"PAIR", out, PAIR, pairs_of(answer) as usize);
-    put_lines(text, b"LONE", out, SINGLE, singles_of(answer) as usize);
+    let (pairs, _) = out.as_chunks::<PAIR>();
+    let (singles, _) = out.as_chunks::<SINGLE>();
+    put_lines(text, b"PAIR", &pairs[..pairs_of(answer) as usize]);
+    put_lines(text, b"LONE", &singles[..singles_of(answer) as usize]);
     put_answer(text, answer);
 }

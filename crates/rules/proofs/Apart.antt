@@ -103,10 +103,13 @@ module _ (p : PerSource ℕ) where
   abbrev placed_after : After → After
   placed_after r = after r.answer (placed p r.world) r.out
 
-  placed_room : (room : Option Victim) (w : World) → make_room room (placed p w) ≡ placed p (make_room room w)
+  placed_flush : (s : Source) (q : ℕ) (w : World) → flush s q (placed p w) ≡ placed p (flush s q w)
   unfolding flush
+  placed_flush s q w = refl
+
+  placed_room : (room : Option Victim) (w : World) → make_room room (placed p w) ≡ placed p (make_room room w)
   placed_room None w = refl
-  placed_room (Some v) w = refl
+  placed_room (Some v) w = placed_flush v.source v.part w
 
   placed_joins : (s : Source) (item : Item) (w : World) (o : List ℕ) → joins s item (placed p w) o ≡ placed_after (joins s item w o)
   unfolding joins store

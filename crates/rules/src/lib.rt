@@ -24,7 +24,7 @@ pub struct Session {
     pub lone: PerSource<u32>,
 }
 
-#[derive(Clone, Copy)]
+#[derive(Clone, Copy, PartialEq, Eq)]
 pub enum Call {
     Arrive(Source, Message),
     Evict(Source, u32),
@@ -35,7 +35,7 @@ pub enum Call {
 }
 
 // Why a call is refused. The last two are the program's.
-#[derive(Clone, Copy)]
+#[derive(Clone, Copy, PartialEq, Eq)]
 pub enum Why {
     BadSheet,
     BadKey,
@@ -49,7 +49,7 @@ pub enum Why {
     NoStart,
 }
 
-#[derive(Clone, Copy)]
+#[derive(Clone, Copy, PartialEq, Eq)]
 pub enum Answer {
     Opened,
     Taken(u32),

@@ -1,20 +1,13 @@
 -- What the layers above may know of the sheets: what is laid is read back, and every other word stays.
 -- By induction on the rows laid. Assumes nothing.
-use mathlib.Core.Path.{◌≡◌, refl, sym, ap, ap₂, ◌∙◌, fun_ext}
-use mathlib.Core.Bool.{Bool, true, false, cond, not, ◌&&◌, true≢false}
-use mathlib.Core.List.{List, [], ◌∷◌, ◌++◌}
-use Prim.Native.Nat.{ℕ, zero, suc, ◌+◌, ◌*◌, ◌≤◌, ◌<◌, max}
-use native.Mathlib.Nat.{add-zero}
-use native.Mathlib.Omega.{arith}
-use lib.Dec.{ltb, eqb}
-use lib.ListN.{length, get_or, length-append}
-use borrow.Author.Tests.{lt-ltb, eqb-true, eq-eqb, ne_eqb}
+use Rattle.std.proofs.Common.{◌≡◌, refl, sym, ap, ap₂, ◌∙◌, Bool, true, false, cond, not, ◌&&◌, true≢false, List, [], ◌∷◌, ◌++◌, ℕ, zero, suc, ◌+◌, ◌*◌, ◌≤◌, ◌<◌, max, add-zero, ltb, eqb, length, get_or, length-append, lt-ltb, eqb-true, eq-eqb, ne_eqb, arith}
+use Rattle.std.proofs.Math.Path.{fun_ext}
+use Rattle.std.proofs.lemmas.Bool.{eqb-false}
 use Rattle.stamps.specs.declared.Source.{Source}
 use Rattle.stamps.specs.declared.Source.TheVariants.{A, B}
 use Rattle.stamps.specs.declared.Row.{Row}
 use Rattle.stamps.specs.declared.Entry.{Entry}
 use Rattle.stamps.specs.Counting.{bit, tally, up_to}
-use Rattle.std.proofs.lemmas.Bool.{eqb-false}
 use Rattle.stamps.proofs.CountingLaws.{tests, one_more, tally_le, kept_last, length-kept}
 use Rattle.stamps.specs.Keys.{part_of}
 use Rattle.stamps.specs.Stamps.{in_memory, stamp}

@@ -4,5 +4,4 @@ pub mod Laws
 pub mod LayoutLaws
 pub mod LayoutMeaning
 pub mod Noted
-pub mod Ranges
 pub mod Victim

@@ -1,19 +1,12 @@
 -- What one more entry does to the lists: its own list has it last, and the others are as they were.
 -- Assumes nothing.
-use mathlib.Core.Path.{◌≡◌, refl, ap, ◌∙◌}
-use mathlib.Core.Bool.{Bool, true, false, cond, ◌&&◌}
-use mathlib.Core.List.{List, [], ◌∷◌, ◌++◌}
-use Prim.Native.Nat.{ℕ, suc, ◌+◌, ◌*◌, ◌≤◌, ◌<◌}
-use native.Mathlib.Omega.{arith}
-use lib.Dec.{ltb, eqb}
-use lib.ListN.{length, get_or, set}
-use lib.Seq.{get_or-set_same, get_or-set_other}
-use borrow.Author.Tests.{lt-ltb, eqb-true, eq-eqb, ne_eqb}
+use Rattle.std.proofs.Common.{◌≡◌, refl, ap, ◌∙◌, Bool, true, false, cond, ◌&&◌, List, [], ◌∷◌, ◌++◌, ℕ, suc, ◌+◌, ◌*◌, ◌≤◌, ◌<◌, ltb, eqb, length, get_or, set, get_or-set_same, get_or-set_other, lt-ltb, eqb-true, eq-eqb, ne_eqb, arith}
+use Rattle.std.proofs.Math.Bool.{and-false}
+use Rattle.std.proofs.lemmas.Bool.{eqb-false}
 use Rattle.stamps.specs.declared.Source.{Source}
 use Rattle.stamps.specs.declared.Source.TheVariants.{A, B}
 use Rattle.stamps.specs.declared.Entry.{Entry}
 use Rattle.stamps.specs.Sources.{other}
-use Rattle.std.proofs.lemmas.Bool.{eqb-false}
 use Rattle.stamps.proofs.CountingLaws.{tests}
 use Rattle.sheets.specs.Layout.{probe_need, list_no, put_entry}
 use Rattle.sheets.specs.Lists.{entries, list_of}
@@ -59,8 +52,8 @@ module _ (parts : ℕ) (counts probe : List ℕ) (s : Source) (q : ℕ) (e : Ent
     where
       go : (s : Source) (v : Bool) → eqb k q ≡ v → (ltb k parts && eqb (list_no parts s k) (list_no parts s q)) ≡ v
       go s true f = rw (eqb-true k q f, lt-ltb q parts h) (eq-eqb (list_no parts s q) (list_no parts s q) refl)
-      go A false f = rw f (mathlib.Core.Bool.and-false (ltb k parts))
-      go B false f = rw (ne_eqb (parts + k) (parts + q) (λ g. eqb-false k q f (omega arith))) (mathlib.Core.Bool.and-false (ltb k parts))
+      go A false f = rw f (and-false (ltb k parts))
+      go B false f = rw (ne_eqb (parts + k) (parts + q) (λ g. eqb-false k q f (omega arith))) (and-false (ltb k parts))
 
   -- the other one
   pub list_facing : (k : ℕ) → noted (other s) k ≡ list_of parts counts probe (other s) k

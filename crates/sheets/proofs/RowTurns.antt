@@ -1,16 +1,8 @@
 -- The turns of the loops over one sheet's rows: each invariant speaks of what is done so far, and each way through a turn is a lemma.
 -- Assumes nothing.
-use mathlib.Core.Path.{subst, ◌≡◌, refl, sym, ◌∙◌}
-use mathlib.Core.Bool.{Bool, true, false, cond}
-use mathlib.Core.List.{List}
-use Prim.Native.Nat.{ℕ, zero, suc, ◌+◌, ◌≤◌, ◌<◌}
-use native.Mathlib.Omega.{arith}
-use native.Mathlib.Numerals.{add-one}
-use lib.Dec.{eqb}
-use lib.ListN.{length, get_or, set, replicate, take}
-use Rattle.std.proofs.Common.{length-take-le}
+use Rattle.std.proofs.Common.{subst, ◌≡◌, refl, sym, ◌∙◌, Bool, true, false, cond, List, ℕ, zero, suc, ◌+◌, ◌≤◌, ◌<◌, add-one, eqb, length, get_or, set, replicate, take, length-take-le, eqb-true, eq-eqb, ne_eqb, arith}
+use Rattle.std.proofs.lemmas.Bool.{eqb-false}
 use Rattle.std.proofs.lemmas.List.{get_or-take}
-use borrow.Author.Tests.{eqb-true, eqb-false, eq-eqb, ne_eqb}
 use Rattle.stamps.specs.declared.Row.{Row}
 use Rattle.stamps.specs.Counting.{values}
 use Rattle.stamps.proofs.CountingLaws.{tally_le, length-values, values-at, values_cong, set_values, length-kept}

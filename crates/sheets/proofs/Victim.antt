@@ -1,11 +1,7 @@
 -- What the rule of the victim means: which source it is of, that its portion is the first of the largest, and that flushing it moves a row.
 -- By induction on the partitions, and on the rows. Assumes nothing.
-use mathlib.Core.Path.{◌≡◌, refl, ap}
-use mathlib.Core.Bool.{Bool, true, false, cond, and-true}
-use Prim.Native.Nat.{ℕ, zero, suc, ◌+◌, ◌≤◌, ◌<◌}
-use native.Mathlib.Omega.{arith}
-use lib.Dec.{ltb}
-use borrow.Author.Tests.{lt-ltb, le-ltb, eq-eqb}
+use Rattle.std.proofs.Common.{◌≡◌, refl, ap, Bool, true, false, cond, ℕ, zero, suc, ◌+◌, ◌≤◌, ◌<◌, ltb, lt-ltb, le-ltb, eq-eqb, arith}
+use Rattle.std.proofs.Math.Bool.{and-true}
 use Rattle.stamps.specs.declared.Source.{Source}
 use Rattle.stamps.specs.declared.Source.TheVariants.{A, B}
 use Rattle.stamps.specs.declared.Row.{Row}

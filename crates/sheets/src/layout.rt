@@ -12,11 +12,14 @@ pub const ROW: usize = 3;
 // Of an entry: DTS-last and ProbeTS.
 const ENTRY: usize = 2;
 
-// Of a list, which has 32 entries.
-pub const LIST: usize = 64;
+// The entries that a list has room for.
+const ENTRIES: usize = 32;
+
+// The words of a list.
+pub const LIST: usize = ENTRIES * ENTRY;
 
 // Of a partition's lists, one for each source.
-pub const LISTS: usize = 128;
+pub const LISTS: usize = 2 * LIST;
 
 // Of a pair: its row of A, its row of B and their key.
 pub const PAIR: usize = 3;
@@ -40,7 +43,7 @@ pub fn room_in<const WIDTH: usize>(words: usize) -> usize
     words / WIDTH
 }
 
-// The rows of one source, in lent words.
+// The rows of one source, in lent words. Words and rows stand side by side: the words lent may be more than the rows need.
 #[derive(Clone, Copy)]
 pub struct Sheet<'s> {
     pub words: &'s [u32],
@@ -158,7 +161,7 @@ pub fn put_told(
     }
 }
 
-// Number w: a row, with its item.
+// Row by itself number w, with its item.
 #[tactic(auto, unfolding(crate::specs::Layout::put_single))]
 pub fn put_single(out: &mut [u32], w: usize, row: u32, item: Item)
     requires { singles_need (w + 1) ≤ length out.old }

@@ -6,7 +6,8 @@ use crate::layout::entry_at;
 use crate::parts::Parts;
 use stamps::{Entry, Row, Source};
 
-// The list of one portion: its number among the lists of the probe sheet, and how many entries it has.
+// The list of one portion: its number among the lists of the probe sheet, and how many entries it has. It keeps the whole sheet and a number:
+// `entry_at`, of which document 01's words speak, counts from the sheet's beginning.
 #[derive(Clone, Copy)]
 pub struct ProbeList<'s> {
     pub probe: &'s [u32],
@@ -50,7 +51,7 @@ impl ProbeList<'_> {
     }
 }
 
-// The number of a portion's list, and how many entries it has: enough for who adds one.
+// The number of a portion's list, and how many entries it has, which is all that adding an entry needs.
 pub fn list_of(counts: &[u32; 32], parts: Parts, source: Source, part: u32) -> (usize, usize)
     requires { (part < parts.count) × (parts.count ≤ 16) }
     ensures number { result.0 ≡ list_no parts.count source part }

@@ -8,20 +8,29 @@ use crate::layout::{Sheet, put_dts};
 use crate::parts::Parts;
 use stamps::Source;
 
+// The most partitions that there may be.
+const PARTS: usize = 16;
+
 impl Sheet<'_> {
-    // The number of rows in memory.
+    // The number of rows in memory. Loops over all rows are written out: a chain (`filter`, `count`) is neither vectorised nor unrolled.
     pub fn count_memory(&self) -> usize
         ensures { result ≡ memory_rows (row_at self.now.words.now) self.now.rows }
     {
-        (0..self.rows).filter(|&row| self.dts(row) == 0).count()
+        let mut count = 0;
+        for row in 0..self.rows {
+            if self.dts(row) == 0 {
+                count += 1;
+            }
+        }
+        count
     }
 
     // The memory rows of each partition, in one pass.
-    fn count_portions(&self, parts: Parts) -> [usize; 16]
+    fn count_portions(&self, parts: Parts) -> [usize; PARTS]
         requires { parts.count ≤ 16 }
         ensures { result ≡ values (λ q. portion_rows parts.count q (row_at self.now.words.now) self.now.rows) 16 }
     {
-        let mut sizes = [0; 16];
+        let mut sizes = [0; PARTS];
         for row in 0..self.rows {
             if self.dts(row) == 0 {
                 sizes[parts.of(self.item(row)) as usize] += 1;
@@ -47,8 +56,8 @@ impl Sheet<'_> {
         self.dts(row) == 0 && parts.of(self.item(row)) == part
     }
 
-    // The largest DTS in a portion's spooled rows: 0 exactly if it has none, since DTS 0 is that of a row in memory, and no Option: document 01 keeps
-    // this number in an entry.
+    // The largest DTS in a portion's spooled rows: 0 exactly if it has none, since DTS 0 is that of a row in memory. No Option: `latest`, of which the
+    // theorems on runs speak, is this number.
     pub fn latest_dts(&self, parts: Parts, part: u32) -> u32
         ensures { result ≡ latest parts.count part (row_at self.now.words.now) self.now.rows }
     {
@@ -64,7 +73,7 @@ impl Sheet<'_> {
 }
 
 // The portion to flush when memory is full.
-#[derive(Clone, Copy)]
+#[derive(Clone, Copy, PartialEq, Eq)]
 pub struct Victim {
     pub source: Source,
     pub part: u32,
@@ -84,22 +93,20 @@ fn first_largest(sizes: &[usize]) -> u32
     best as u32
 }
 
-// Each source comes with the number of its rows in memory, so that one sheet is passed over, and once.
+// Each source comes with the number of its rows in memory, so only the victim's sheet is gone over, and only once.
 pub fn find_victim(a: &Sheet, a_held: usize, b: &Sheet, b_held: usize, parts: Parts) -> Victim
     requires few_parts { parts.count ≤ 16 }
     requires held { (a_held ≡ memory_rows (row_at a.now.words.now) a.now.rows) × (b_held ≡ memory_rows (row_at b.now.words.now) b.now.rows) }
     ensures { result ≡ victim parts.count (held_in parts.count (row_at a.now.words.now) a.now.rows) (held_in parts.count (row_at b.now.words.now) b.now.rows) }
 {
-    if a_held < b_held {
-        Victim {
-            source: Source::B,
-            part: b.largest_part(parts),
-        }
+    let (source, sheet) = if a_held < b_held {
+        (Source::B, b)
     } else {
-        Victim {
-            source: Source::A,
-            part: a.largest_part(parts),
-        }
+        (Source::A, a)
+    };
+    Victim {
+        source,
+        part: sheet.largest_part(parts),
     }
 }
 

@@ -30,6 +30,7 @@ use Rattle.rules.proofs.Laws.{count_room, length-room}
 use Rattle.rules.proofs.Settling.{settle-no, settle_good, verdict_good}
 use Rattle.rules.proofs.Flushing.{flush-row, flush_session, flush_facing, flush-length, leaving_few}
 use Rattle.checks.specs.Passed.{Rows, admitted, settled, Space}
+use Rattle.checks.proofs.Facing.{rows_few}
 use Rattle.checks.proofs.Passing.{RowsOf, taken, denied, first_refused}
 use Rattle.stage1.specs.Work.{rows_after}
 
@@ -47,10 +48,6 @@ pub stored : (s : Source) (item : Item) (w : World) (l : List ℕ)
     → world (with_feed s (record { rows = count_of w s + 1; closed = closed_of w s }) (with_clock (w.session.clock + 1) w.session)) (with_sheet s l w.sheets) ≡ store s item w
 unfolding store
 stored s item w l e = rw (e, add-one w.session.clock, add-one (count_of w s))
-
-rows_few : (t : Session) (a b : ℕ) (s : Source) → Rows t a b → (pick s t.feeds.a t.feeds.b).rows ≤ 4096
-rows_few t a b A h = h.a_few
-rows_few t a b B h = h.b_few
 
 -- ---- the box once there is room
 

@@ -16,12 +16,12 @@ use sheets::layout::{PAIR, put_row, room_in};
 use sheets::rows::Victim;
 use stamps::{Item, Message, Row, Source};
 
-// Makes room, and hands back the session with its clock.
-fn make_room(session: Session, room: Option<Victim>, a: &mut [u32], b: &mut [u32]) -> Session
+// Makes room by flushing the victim, if there has to be one, and hands back the session with its clock.
+fn make_room(session: Session, victim: Option<Victim>, a: &mut [u32], b: &mut [u32]) -> Session
     requires { Rows session (length a.old) (length b.old) }
-    ensures { (x : Sheets) → world result (with_rows a.new b.new x) ≡ make_room room (world session (with_rows a.old b.old x)) }
+    ensures { (x : Sheets) → world result (with_rows a.new b.new x) ≡ make_room victim (world session (with_rows a.old b.old x)) }
 {
-    match room {
+    match victim {
         None => session,
         Some(victim) => clear(session, victim.source, victim.part, a, b).session,
     }
@@ -107,12 +107,12 @@ fn try_arrive(
     };
     let item = view.admit(source, message)?;
     let rows = RowsView { view };
-    let room = rows.find_room();
-    let count = rows.count_pairs(source, item, room);
+    let victim = rows.find_room();
+    let count = rows.count_pairs(source, item, victim);
     if room_in::<PAIR>(out.len()) < count as usize {
         return Err(Why::RoomShort(count));
     }
-    let cleared = make_room(session, room, a, b);
+    let cleared = make_room(session, victim, a, b);
     Ok(take_row(cleared, source, item, count, a, b, probe, out))
 }
 

@@ -51,7 +51,7 @@ fn add_entry(session: Session, source: Source, part: u32, last: u32, probe: &mut
 }
 
 // What comes of a run.
-#[tactic(auto, using(checks::proofs::Passing::good_rows, checks::proofs::Passing::good_probes))]
+#[tactic(auto, using(checks::proofs::Passing::good_rows, checks::proofs::Passing::good_probes, crate::proofs::Runs::run_few))]
 fn try_run(
     session: Session,
     source: Source,
@@ -89,6 +89,7 @@ fn try_run(
     })
 }
 
+// A run. What it reads is one view inside; its own parameters are those of every call (`perform` of calls).
 pub fn run(
     session: Session,
     source: Source,

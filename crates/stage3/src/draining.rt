@@ -45,6 +45,7 @@ fn try_drain(
     })
 }
 
+// A drain, with the parameters of every call (`perform` of calls).
 pub fn drain(session: Session, a: &[u32], b: &[u32], probe: &[u32], out: &mut [u32]) -> Reply
     ensures { leaves result (bundle a.now b.now probe.now) out.new ≡ after_call (world session (bundle a.now b.now probe.now)) (given Drain out.old) }
 {

@@ -48,6 +48,7 @@ fn try_lone(
     })
 }
 
+// A lone call, with the parameters of every call (`perform` of calls).
 pub fn lone(
     session: Session,
     source: Source,

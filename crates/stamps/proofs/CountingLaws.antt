@@ -1,13 +1,21 @@
 -- Laws of counting and choosing, and the tests as a ruleset for omega. By induction on the count or the list.
 -- Assumes nothing.
-use Rattle.std.specs.Prelude.{◌≡◌, refl, Bool, true, false, cond, ◌&&◌, List, [], ◌∷◌, ◌++◌, map, ℕ, zero, suc, ◌+◌, ◌*◌, ◌-◌, ◌≤◌, ◌<◌, eqb, length, get_or, set}
+use Rattle.std.specs.Prelude.{◌≡◌, ◌≢◌, refl, Bool, true, false, cond, ◌&&◌, List, [], ◌∷◌, ◌++◌, map, ℕ, zero, suc, ◌+◌, ◌*◌, ◌-◌, ◌≤◌, ◌<◌, eqb, length, get_or, set}
 use Rattle.std.proofs.Common.{sym, ap, ◌∙◌, subst, le_refl, zero-add, add-zero, arith, add-one, length-append, length-set, ext_get_or, get_or-set_same, get_or-set_other, ltb-true, ltb-false, leb-true, leb-false, eqb-true}
 use Rattle.std.proofs.lemmas.Bool.{and_parts, eqb-false}
 use Rattle.std.proofs.Math.ListN.{get_or-append}
 use Rattle.std.proofs.lemmas.List.{get_or_at}
 use Rattle.stamps.specs.Counting.{bit, tally, top, values, span, all_of, keep, count}
 
--- std's own, by the names that the crates above have for them
+-- ---- tests
+
+-- a test of equality that fails, as std says it
+pub eqb_ne : (i j : ℕ) → eqb i j ≡ false → i ≢ j
+eqb_ne i j = eqb-false i j
+
+-- both halves of a test that holds, as std says it
+pub both : (u v : Bool) → (u && v) ≡ true → (u ≡ true) × (v ≡ true)
+both u v h = and_parts u v h
 
 -- what a test says, where `tests` of std says nothing of an equation that fails
 pub ruleset tests = (ltb-true, ltb-false, leb-true, leb-false, eqb-true, eqb-false)
@@ -29,6 +37,13 @@ pub each : (bs : List Bool) → all_of bs ≡ true → Each bs
 each [] h = tt
 each (b ∷ []) h = (h, tt)
 each (b ∷ c ∷ bs) h = let p = and_parts b (all_of (c ∷ bs)) h in (p.0, each (c ∷ bs) p.1)
+
+-- five tests, joined from the left
+pub all_five : (a b c d e : Bool) → all_of (a ∷ b ∷ c ∷ d ∷ e ∷ []) ≡ ((((a && b) && c) && d) && e)
+all_five false b c d e = refl
+all_five true false c d e = refl
+all_five true true false d e = refl
+all_five true true true d e = refl
 
 -- the second test matters only where the first holds
 pub and_cong : (u : Bool) {v w : Bool} → (u ≡ true → v ≡ w) → (u && v) ≡ (u && w)

@@ -5,7 +5,8 @@ use Rattle.std.proofs.Common.{sym, ltb-true, ltb-false, le-leb}
 use Rattle.std.proofs.Math.Bool.{and-false}
 use Rattle.std.proofs.lemmas.Bool.{lt-leb}
 use Rattle.stamps.specs.declared.Row.{Row}
-use Rattle.stamps.specs.Stamps.{in_memory, alive, present_at, had_left_when, together}
+use Rattle.stamps.specs.declared.Entry.{Entry}
+use Rattle.stamps.specs.Stamps.{in_memory, alive, present_at, had_left_when, together, covers}
 
 pub alive_is : (t : ℕ) (r : Row) → alive t r ≡ (eqb r.dts 0 || ltb t r.dts)
 unfolding alive
@@ -18,6 +19,10 @@ present_at_is t r = refl
 pub together_is : (a b : Row) → together a b ≡ not (had_left_when a b || had_left_when b a)
 unfolding together
 together_is a b = refl
+
+pub covers_is : (e : Entry) (x y : Row) → covers e x y ≡ (not (alive e.last x) && present_at e.probe y)
+unfolding covers
+covers_is e x y = refl
 
 -- ---- figure 5 of the report and rule 1 of document 01
 

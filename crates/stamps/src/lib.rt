@@ -52,7 +52,7 @@ impl<T: Copy> PerSource<T> {
 }
 
 // What a feed sends.
-#[derive(Clone, Copy)]
+#[derive(Clone, Copy, PartialEq, Eq)]
 pub struct Message {
     pub heat: u32,
     pub car: u32,
@@ -116,7 +116,7 @@ pub fn part_of(parts: u32, item: Item) -> u32
     item.key % parts
 }
 
-// A row with these stamps was not yet flushed when the clock stood at t.
+// The row was not yet flushed when the clock stood at t.
 #[tactic(auto, unfolding(crate::specs::Stamps::alive))]
 fn alive_at(t: u32, row: Row) -> bool
     ensures { result ≡ alive t row }

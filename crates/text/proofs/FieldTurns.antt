@@ -1,23 +1,14 @@
 -- What a turn of the loops over a text's blanks does, and what a field is of the texts between commas.
 -- Assumes nothing.
-use mathlib.Core.Path.{◌≡◌, refl, ap, sym, ◌∙◌}
-use mathlib.Core.Bool.{Bool, true, false, cond}
-use mathlib.Core.List.{List, [], ◌∷◌, ◌++◌}
-use Prim.Native.Nat.{ℕ, suc, ◌+◌, ◌-◌, ◌≤◌, ◌<◌}
-use native.Mathlib.Omega.{arith}
-use native.Mathlib.Numerals.{add-one}
-use lib.ListN.{length, get_or, take, drop, length-drop, get_or-map}
-use Rattle.std.proofs.Common.{Bor}
+use Rattle.std.proofs.Common.{◌≡◌, refl, ap, sym, ◌∙◌, Bool, true, false, cond, List, [], ◌∷◌, ◌++◌, ℕ, suc, ◌-◌, ◌≤◌, ◌<◌, arith, length, get_or, take, drop, length-drop, Bor, unwrap_or, option_map, Option, Some, None, take-suc, take_all}
+use Rattle.std.proofs.Math.ListN.{get_or-map}
 use Rattle.std.proofs.lemmas.Option.{unwrap_or-slice_get}
+use Rattle.std.proofs.lemmas.Iterator.{YieldsList}
+use Rattle.std.proofs.lemmas.Iterator.Splits.{YieldsList-from_slice_split}
+use Rattle.std.specs.Fn.{CalledAt}
+use Rattle.std.specs.Slice.Iter.{split_steps, split_rest, split_done, split_callee}
 use Rattle.std.specs.List.{slice_get}
-use Rattle.std.specs.Option.{unwrap_or, option_map}
-use Rattle.std.specs.Prelude.{Option, Some, None}
-use lib.Seq.{drop-cons, take-suc, take_all}
-use Rattle.text.specs.Fields.{is_blank, front_cut, kept, end_cut, trim, split, raw_at, fields, field_at}
-
--- what is left is its first byte and what is left behind it
-pub left_at : (l : List ℕ) (i : ℕ) → i < length l → drop i l ≡ get_or l i 0 ∷ drop (i + 1) l
-left_at l i h = rw (add-one i) (drop-cons l i 0 h)
+use Rattle.text.specs.Fields.{is_blank, is_comma, front_cut, kept, end_cut, trim, split, raw_at, fields, field_at}
 
 -- ---- blanks in front
 
@@ -69,6 +60,11 @@ end_none (x ∷ l) h = absurd (omega arith)
 pub ruleset end_steps = (end_blank, end_other, end_none)
 
 -- ---- fields
+
+-- a line's `split` at its commas yields the texts between them
+pub split_yields : {F : Type 0} {s : _} {g : _} {f : F} {l : List ℕ} → split_rest s ≡ l → split_done s ≡ false → split_callee s ≡ f
+    → ((x : ℕ) (b : Bool) (q : F) → CalledAt g f x b q → (q ≡ f) × (b ≡ is_comma x)) → YieldsList (split_steps g) (λ x. x.now) s (split l)
+split_yields = YieldsList-from_slice_split _ is_comma _
 
 field_is : (l : List ℕ) (k : ℕ) → field_at l k ≡ trim (raw_at l k)
 unfolding fields trim front_cut end_cut

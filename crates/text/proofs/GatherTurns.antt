@@ -1,24 +1,22 @@
 -- The turns of the loop that gathers a line: what is left of the input makes of the buffer what all of it does.
 -- Assumes nothing.
-use Rattle.std.proofs.Common.{◌≡◌, refl, ap, ℕ, ◌+◌, ◌-◌, ◌≤◌, ◌<◌, List, [], ◌∷◌, ◌++◌, length, take, drop, get_or, drop_of_length-le, arith}
+use Rattle.std.proofs.Common.{◌≡◌, refl, ap, ℕ, ◌+◌, ◌-◌, ◌≤◌, ◌<◌, List, [], ◌∷◌, ◌++◌, length, take, drop, get_or, drop_of_length-le, arith, ◌↔◌, Some, None, Result, Ok, Err, IsOk, OnOk, OnErr, eq-eqb, ne_eqb, lt-ltb, le-ltb}
 use Rattle.std.proofs.lemmas.Grind.{common_steps}
-use Rattle.std.specs.Prelude.{◌↔◌, Some, None, Result, Ok, Err, IsOk, OnOk, OnErr}
 use Rattle.arrayvec.specs.ArrayVec.{ArrayVec, array_vec_len}
-use borrow.Author.Tests.{eq-eqb, ne_eqb, lt-ltb, le-ltb}
 use Rattle.text.specs.Gathering.{kept, held, gather}
-use Rattle.text.proofs.FieldTurns.{left_at}
+use Rattle.std.proofs.lemmas.List.{drop_more}
 
 -- a byte that is no LF is kept
 pub gather_byte : (most : ℕ) (l input : List ℕ) (i : ℕ) → i < length input → (get_or input i 0 ≡ 10 → ⊥)
     → gather most l (drop i input) ≡ gather most (kept most l (get_or input i 0)) (drop (i + 1) input)
 unfolding gather
-gather_byte most l input i b n = rw (left_at input i b, ne_eqb _ _ n)
+gather_byte most l input i b n = rw (drop_more input i 0 b, ne_eqb _ _ n)
 
 -- an LF ends the line, and what stands behind it is lent
 pub gather_lf : (most : ℕ) (l input : List ℕ) (i : ℕ) → i < length input → get_or input i 0 ≡ 10
     → gather most l (drop i input) ≡ held l (Some (take (length input - (i + 1)) (drop (i + 1) input)))
 unfolding gather
-gather_lf most l input i b e = let q : take (length input - (i + 1)) (drop (i + 1) input) ≡ drop (i + 1) input = grind (arith, common_steps) in rw (left_at input i b, eq-eqb _ _ e, q)
+gather_lf most l input i b e = let q : take (length input - (i + 1)) (drop (i + 1) input) ≡ drop (i + 1) input = grind (arith, common_steps) in rw (drop_more input i 0 b, eq-eqb _ _ e, q)
 
 -- so does the end of the input
 pub gather_end : (most : ℕ) (l input : List ℕ) (i : ℕ) → length input ≤ i → gather most l (drop i input) ≡ held l None

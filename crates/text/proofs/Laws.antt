@@ -1,20 +1,9 @@
 -- What the layers above may know of bytes: where an input is cut into pieces does not matter, what a look at it finds, a printed
 -- number reads back, and each promise allows one result. By induction on the bytes. Assumes nothing.
-use mathlib.Core.Path.{◌≡◌, refl, sym, ap, subst, ◌∙◌}
-use mathlib.Core.Bool.{Bool, true, false, cond}
-use mathlib.Core.List.{List, [], ◌∷◌, ◌++◌, append_assoc}
-use Prim.Native.Nat.{ℕ, zero, suc, ◌+◌, ◌-◌, ◌*◌, ◌/◌, ◌%◌, ◌^◌, ◌≤◌, ◌<◌}
-use native.Mathlib.Nat.{pow-succ'}
-use native.Mathlib.Omega.{arith}
-use lib.Dec.{ltb}
-use lib.ListN.{length, length-append, length-take}
-use Rattle.std.proofs.Common.{append-nil}
-use lib.Seq.{take_all, take-append-le}
-use borrow.Author.Tests.{ltb-true, ltb-false, le-leb}
-use Rattle.std.specs.Borrow.{Bor}
+use Rattle.std.proofs.Common.{◌≡◌, refl, sym, ap, subst, ◌∙◌, Bool, true, false, cond, List, [], ◌∷◌, ◌++◌, append_assoc, ℕ, zero, suc, ◌+◌, ◌-◌, ◌*◌, ◌/◌, ◌%◌, ◌^◌, ◌≤◌, ◌<◌, arith, ltb, length, length-append, length-take, append-nil, take_all, ltb-true, ltb-false, le-leb, Bor, option_map, min, Option, Some, None}
+use Rattle.std.proofs.Math.Nat.{pow-succ'}
+use Rattle.std.proofs.lemmas.List.{take-append-le}
 use Rattle.std.specs.Char.{is_ascii_digit}
-use Rattle.std.specs.Option.{option_map}
-use Rattle.std.specs.Prelude.{min, Option, Some, None}
 use Rattle.text.specs.Gathering.{is_lf, Cut, only, before, cut, lines_from, kept, Held, held, gather, Took, Holds}
 use Rattle.text.specs.Numbers.{digits_from}
 use Rattle.text.specs.Putting.{digits_up, number_most, decimal}
@@ -118,7 +107,7 @@ digits_snoc m (x ∷ l) v d h e = go (is_ascii_digit x) e (digits_snoc (10 * m +
     go : (u : Bool) → cond u (digits_from (10 * m + (x - 48)) l) None ≡ Some v → (digits_from (10 * m + (x - 48)) l ≡ Some v → digits_from (10 * m + (x - 48)) (l ++ ((48 + d) ∷ [])) ≡ Some (10 * v + d))
         → cond u (digits_from (10 * m + (x - 48)) (l ++ ((48 + d) ∷ []))) None ≡ Some (10 * v + d)
     go true f ih = ih f
-    go false f ih = let z : ◌≡◌ {A = ℕ} 0 1 = cc in absurd (omega arith)
+    go false f ih = cc
 
 digits_none : (m : ℕ) → digits_from m [] ≡ Some m
 unfolding digits_from
@@ -150,8 +139,14 @@ decimal-read n h = digits_read number_most n (omega arith) (omega arith)
 pub put_one_result : (d w : List ℕ) {e f : List ℕ} → e ≡ d ++ w → f ≡ d ++ w → e ≡ f
 put_one_result d w a b = a ∙ sym b
 
-pub took_one_result : (h : Held) (r q : Option (Bor (List ℕ))) → Took h r → Took h q → option_map (λ rest. rest.now) r ≡ option_map (λ rest. rest.now) q
-took_one_result h None None t s = refl
-took_one_result h None (Some q) t s = cc
-took_one_result h (Some r) None t s = cc
-took_one_result h (Some r) (Some q) t s = sym t ∙ s
+-- two answers of one look hand back the same bytes
+pub rest_one_result : (h : Held) (r q : Option (Bor (List ℕ))) → Took h r → Took h q → option_map (λ rest. rest.now) r ≡ option_map (λ rest. rest.now) q
+rest_one_result h None None t s = refl
+rest_one_result h None (Some q) t s = cc
+rest_one_result h (Some r) None t s = cc
+rest_one_result h (Some r) (Some q) t s = sym t ∙ s
+
+-- and leave the same line in the buffer
+pub took_one_result : (most : ℕ) (l input : List ℕ) {e f : List ℕ} (r q : Option (Bor (List ℕ))) → e ≡ (gather most l input).line → Took (gather most l input) r
+    → f ≡ (gather most l input).line → Took (gather most l input) q → (e ≡ f) × (option_map (λ rest. rest.now) r ≡ option_map (λ rest. rest.now) q)
+took_one_result most l input r q a t b s = (a ∙ sym b, rest_one_result (gather most l input) r q t s)

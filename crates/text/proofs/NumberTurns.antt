@@ -1,19 +1,13 @@
 -- The turns of the loop over a number's bytes: each is known by what is left of the field.
 -- Assumes nothing.
-use mathlib.Core.Path.{◌≡◌, refl, sym, ◌∙◌}
-use mathlib.Core.Bool.{true, false, and-false}
-use mathlib.Core.List.{List}
-use Prim.Native.Nat.{ℕ, ◌+◌, ◌-◌, ◌*◌, ◌^◌, ◌≤◌, ◌<◌}
-use native.Mathlib.Nat.{pow-succ', pow-le-pow_right}
-use native.Mathlib.Omega.{arith}
-use native.Mathlib.Numerals.{add-one}
-use lib.ListN.{length, get_or, drop, drop_of_length-le}
-use borrow.Author.Tests.{le-leb, lt-leb}
-use Rattle.std.specs.Prelude.{Some, None}
+use Rattle.std.proofs.Common.{◌≡◌, sym, ◌∙◌, true, false, List, ℕ, ◌+◌, ◌-◌, ◌*◌, ◌^◌, ◌≤◌, ◌<◌, arith, add-one, length, get_or, drop, drop_of_length-le, le-leb, Some, None}
+use Rattle.std.proofs.Math.Bool.{and-false}
+use Rattle.std.proofs.Math.Nat.{pow-succ', pow-le-pow_right}
+use Rattle.std.proofs.lemmas.Bool.{lt-leb}
 use Rattle.std.specs.Char.{is_ascii_digit}
 use Rattle.std.proofs.lemmas.Bool.Decides.{nat_tests}
 use Rattle.text.specs.Numbers.{digits_from, number_of}
-use Rattle.text.proofs.FieldTurns.{left_at}
+use Rattle.std.proofs.lemmas.List.{drop_more}
 
 -- a field of the right length is read digit by digit
 pub number_is : (most : ℕ) (l : List ℕ) → 1 ≤ length l → length l ≤ most → number_of most l ≡ digits_from 0 l
@@ -33,9 +27,6 @@ pub record Read (l : List ℕ) (i value : ℕ) : Type 0 where
   pub small : value < 10 ^ i
   pub rest : digits_from value (drop i l) ≡ digits_from 0 l
 
-pub read_first : (l : List ℕ) → Read l 0 0
-read_first l = record { small = omega arith; rest = refl }
-
 digit_top : (x : ℕ) → is_ascii_digit x ≡ true → x ≤ 57
 digit_top x e = grind (arith, nat_tests)
 
@@ -48,12 +39,12 @@ module _ (l : List ℕ) (i value : ℕ) (h : Read l i value) where
   unfolding digits_from
   read_digit b e = record {
     small = rw (add-one i, pow-succ' 10 i) (omega (arith, h.small, digit_top (get_or l i 0) e));
-    rest = sym (rw (left_at l i b, e)) ∙ h.rest;
+    rest = sym (rw (drop_more l i 0 b, e)) ∙ h.rest;
   }
 
   pub read_other : i < length l → is_ascii_digit (get_or l i 0) ≡ false → digits_from 0 l ≡ None
   unfolding digits_from
-  read_other b e = sym h.rest ∙ rw (left_at l i b, e)
+  read_other b e = sym h.rest ∙ rw (drop_more l i 0 b, e)
 
   pub read_all : length l ≤ i → digits_from 0 l ≡ Some value
   unfolding digits_from

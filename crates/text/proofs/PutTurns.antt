@@ -1,10 +1,10 @@
 -- Texts put one behind the other: a loop is known by the text that is left, and a number's decimals are those of std.
 -- Assumes nothing.
-use Rattle.std.proofs.Common.{◌≡◌, ap, rules, List, ◌∷◌, ◌++◌, ℕ, suc, ◌+◌, ◌-◌, ◌*◌, ◌^◌, ◌≤◌, ◌<◌, length, take, drop, get_or, add-one, mul-le-mul_left, arith}
+use Rattle.std.proofs.Common.{◌≡◌, ap, rules, List, ◌∷◌, ◌++◌, ℕ, ◌+◌, ◌*◌, ◌^◌, ◌≤◌, ◌<◌, length, drop, get_or, mul-le-mul_left, arith}
 use Rattle.std.specs.Fmt.{decimal as std_decimal}
 use Rattle.std.proofs.lemmas.Fmt.{AppendsLastDigit, decimal_from_appends, length-decimal-le}
-use Rattle.text.proofs.FieldTurns.{left_at}
-use Rattle.text.specs.Putting.{digits_up, number_most, decimal, spaced, numbers_text, line_text, lines_text, row_in, rows_in}
+use Rattle.std.proofs.lemmas.List.{drop_more}
+use Rattle.text.specs.Putting.{digits_up, number_most, decimal, spaced, numbers_text}
 
 -- ---- digits
 
@@ -20,19 +20,10 @@ decimal_std n h = decimal_from_appends digits_up digits_appended number_most n (
 -- what is left of some numbers is the next one, behind a space, and what is left behind it
 pub numbers_left : (ns : List ℕ) (i : ℕ) → i < length ns → numbers_text (drop i ns) ≡ 32 ∷ decimal (get_or ns i 0) ++ numbers_text (drop (i + 1) ns)
 unfolding spaced
-numbers_left ns i h = ap numbers_text (left_at ns i h)
+numbers_left ns i h = ap numbers_text (drop_more ns i 0 h)
 
--- ---- lines of an output
+-- ---- lines of a table
 
--- what is left of the lines is the next one and what is left behind it
-pub lines_left : (word : List ℕ) (width : ℕ) (o : List ℕ) (i n : ℕ) → i < n
-    → lines_text word (rows_in width o i (n - i)) ≡ line_text word (row_in width o i) ++ lines_text word (rows_in width o (i + 1) (n - (i + 1)))
-lines_left word width o i n h = let q : n - i ≡ suc (n - (i + 1)) = omega arith in rw (q, add-one i)
-
--- a row's words, lent as a part of the output
-pub row_words_lem : (width : ℕ) (o : List ℕ) (i : ℕ) → take (width * i + width - width * i) (drop (width * i) o) ≡ row_in width o i
-row_words_lem width o i = let q : width * i + width - width * i ≡ width = omega arith in ap (λ (k : ℕ). take k (drop (width * i) o)) q
-
--- the rows before n are words of the output
+-- one of n rows, and those before it, take no more than all of them
 pub row_fits : (width i n : ℕ) → i < n → width * i + width ≤ width * n
 row_fits width i n h = omega (arith, mul-le-mul_left width h)

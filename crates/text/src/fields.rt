@@ -8,9 +8,9 @@ fn is_blank(byte: u8) -> bool
     matches!(byte, b' ' | b'\t')
 }
 
-// The text without the blanks in front.
+// The text without the blanks in front. The library's `trim_ascii_start` would cut a CR too, which is no blank here.
 #[tactic(auto, using(crate::proofs::FieldTurns::front_steps))]
-fn skip_blanks(text: &[u8]) -> &[u8]
+fn trim_front(text: &[u8]) -> &[u8]
     ensures { result.now ≡ front_cut text.now }
 {
     let mut left = text;
@@ -22,9 +22,9 @@ fn skip_blanks(text: &[u8]) -> &[u8]
     left
 }
 
-// The text without the blanks at its end.
+// The text without the blanks at its end. `trim_ascii_end` would cut the CR of a CRLF too.
 #[tactic(auto, using(crate::proofs::FieldTurns::end_steps))]
-fn drop_blanks(text: &[u8]) -> &[u8]
+fn trim_end(text: &[u8]) -> &[u8]
     ensures { result.now ≡ end_cut text.now }
 {
     let mut left = text;
@@ -41,7 +41,7 @@ pub fn field(line: &[u8], k: usize) -> &[u8]
     ensures { result.now ≡ field_at line.now k }
 {
     let raw = line.split(|byte| *byte == b',').nth(k).unwrap_or(&[]);
-    drop_blanks(skip_blanks(raw))
+    trim_end(trim_front(raw))
 }
 
 // One more than there are commas.

@@ -2,7 +2,7 @@
 ghost use Rattle.std.specs.Prelude.{◌≡◌, ◌≤◌};
 ghost use Rattle.text.specs.Numbers.{number_of};
 
-// A number of at most so many digits, which 32 bits hold.
+// A number of at most so many digits, which 32 bits hold. Not by `parse`, which takes a sign before them.
 #[tactic(auto, using(crate::proofs::NumberTurns::number_steps))]
 pub fn read_number(text: &[u8], most: usize) -> Option<u32>
     requires { most ≤ 9 }

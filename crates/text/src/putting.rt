@@ -1,7 +1,7 @@
 // Texts put behind what a text of fixed capacity holds: bytes, decimals, and lines of a word and numbers.
 ghost use Rattle.std.specs.Prelude.{◌≡◌, ◌+◌, ◌*◌, ◌≤◌, ◌++◌, length};
 ghost use Rattle.arrayvec.specs.ArrayVec.{array_vec_len};
-ghost use Rattle.text.specs.Putting.{number_most, decimal, numbers_text, line_need, line_text, lines_text, said, rows_in};
+ghost use Rattle.text.specs.Putting.{number_most, decimal, numbers_text, line_need, line_text, lines_text, said};
 
 use arrayvec::ArrayVec;
 use itoa::Buffer;
@@ -48,22 +48,31 @@ pub fn put_line<const N: usize>(text: &mut ArrayVec<u8, N>, word: &[u8], numbers
     text.push(b'\n');
 }
 
-// A line for each of the first n rows of a table, whose rows are of so many numbers.
-pub fn put_lines<const N: usize>(
+// A line of a row. That it has so many numbers is known of one row by its type, but not of a slice's elements.
+fn put_row<const N: usize, const WIDTH: usize>(
     text: &mut ArrayVec<u8, N>,
     word: &[u8],
-    table: &[u32],
-    width: usize,
-    n: usize,
+    row: &[u32; WIDTH],
 )
-    requires room { array_vec_len text.old + line_need (length word.now) width * n ≤ N }
-    requires rows { width * n ≤ length table.now }
-    ensures put { text.new.items ≡ text.old.items ++ lines_text word.now (rows_in width table.now 0 n) }
-    ensures fits { array_vec_len text.new ≤ array_vec_len text.old + line_need (length word.now) width * n }
+    requires { array_vec_len text.old + line_need (length word.now) WIDTH ≤ N }
+    ensures put { text.new.items ≡ text.old.items ++ line_text word.now row.now }
+    ensures fits { array_vec_len text.new ≤ array_vec_len text.old + line_need (length word.now) WIDTH }
 {
-    for row in 0..n {
-        let from = width * row;
-        put_line(text, word, &table[from..from + width]);
+    put_line(text, word, row);
+}
+
+// A line for each row of a table.
+pub fn put_lines<const N: usize, const WIDTH: usize>(
+    text: &mut ArrayVec<u8, N>,
+    word: &[u8],
+    table: &[[u32; WIDTH]],
+)
+    requires { array_vec_len text.old + line_need (length word.now) WIDTH * length table.now ≤ N }
+    ensures put { text.new.items ≡ text.old.items ++ lines_text word.now table.now }
+    ensures fits { array_vec_len text.new ≤ array_vec_len text.old + line_need (length word.now) WIDTH * length table.now }
+{
+    for row in table {
+        put_row(text, word, row);
     }
 }
 

@@ -14,5 +14,5 @@ returns g c =
     let last = s.next ∷ s.lone.a ∷ s.lone.b ∷ [] in
     on_ok_weaker c.write_all-2.result
     (appends_line _ _ _ _ _ _ c.in_ok-write_all.ensures.bytes
-    (appends_parts _ _ _ _ first s.counts last c.in_ok-print_numbers.ensures c.in_ok-print_numbers-2.ensures c.in_ok-print_numbers-3.ensures))
+    (appends_parts _ _ _ _ first s.counts last (rw (c.from.ensures, c.from-2.ensures) at c.in_ok-print_numbers.ensures) c.in_ok-print_numbers-2.ensures c.in_ok-print_numbers-3.ensures))
     c.write_all-2.ensures.bytes

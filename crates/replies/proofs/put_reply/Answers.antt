@@ -9,4 +9,4 @@ unfolding reply_text
 returns-clause-put g c =
     let pairs = pairs_are c.args.out.now (pairs_of c.args.answer) c.requires.pairs in
     let singles = singles_are c.args.out.now (singles_of c.args.answer) c.requires.singles in
-    simp (c.put_answer.ensures.put, c.put_lines-2.ensures.put, c.put_lines.ensures.put, c.pairs_of.ensures, c.singles_of.ensures, pairs, singles, append_assoc)
+    simp (c.put_answer.ensures.put, c.put_lines-2.ensures.put, c.put_lines.ensures.put, c.pairs_of.ensures, c.singles_of.ensures, c.as_chunks.ensures.front, c.as_chunks-2.ensures.front, pairs, singles, append_assoc)

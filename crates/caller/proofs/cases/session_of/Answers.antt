@@ -6,4 +6,4 @@ use Rattle.caller.proofs.cases.session_of.Goals as goal
 pub returns : goal.returns
 returns c =
     let whole = record_whole c.args.numbers.now c.in_ok-as_array.field-0.now (search rules) c.in_ok-as_array.ensures.cases.same in
-    rw (c.in_ok-flag_of.ensures.value, c.in_ok-flag_of-2.ensures.value) whole
+    rw (c.in_ok-feed_of.ensures.0, c.in_ok-feed_of.ensures.1, c.in_ok-feed_of-2.ensures.0, c.in_ok-feed_of-2.ensures.1) whole

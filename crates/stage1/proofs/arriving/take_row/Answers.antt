@@ -5,4 +5,4 @@ use Rattle.stage1.proofs.Arrivals.{joined}
 use Rattle.stage1.proofs.arriving.take_row.Goals as goal
 
 pub returns : goal.returns
-returns c = joined c.args.source c.args.item _ _ c.args.out.now _ _ _ c.requires.count refl (c.store_row-stored.ensures (bundle c.args.a.now c.args.b.now c.args.probe.now)) c.write_pairs.ensures
+returns c = joined _ _ _ _ _ _ _ _ c.requires.count refl (c.store_row-stored.ensures (bundle c.args.a.now c.args.b.now c.args.probe.now)) c.write_pairs.ensures

@@ -2,14 +2,13 @@
 use Rattle.std.specs.Prelude.{◌≡◌, cond, ◌*◌}
 use Rattle.std.proofs.Common.{ap, arith}
 use Rattle.pairs.specs.Pairs.{Table}
-use Rattle.pairs.proofs.Laws.{product_few}
 use Rattle.rules.specs.Calls.{effect}
 use Rattle.rules.specs.Refusals.{own_checks}
 use Rattle.rules.specs.World.{bundle, given}
 use Rattle.rules.specs.declared.Call.TheVariants.{Drain}
 use Rattle.rules.specs.declared.Answer.TheVariants.{More, Done}
 use Rattle.checks.proofs.Passing.{good_fits, call_refused, call_done}
-use Rattle.stage3.proofs.Owed.{drained}
+use Rattle.stage3.proofs.Owed.{job_drained}
 use Rattle.stage3.proofs.draining.try_drain.Goals as goal
 use Rattle.stage3.proofs.draining.try_drain.Goals.{then-written, else-written}
 
@@ -20,12 +19,6 @@ returns-in_err-check_drain c = call_refused _ (given Drain c.args.out.now) c.che
 pub write_from-written-requires : goal.write_from-written-requires
 write_from-written-requires c = (rw (ap (λ (t : Table). t.a.count * t.b.count) c.job-job.ensures.table) (good_fits _ _ c.check_drain.result c.check_drain.ensures c.in_ok-check_drain.was).next, omega arith)
 
-pub overflow_cast-pairs : goal.overflow_cast-pairs
-overflow_cast-pairs c = let j = c.job-job.result in omega (arith, product_few j.own.rows j.facing.rows j.own_few j.facing_few, c.write_from-written.ensures.few)
-
-pub overflow_cast-next : goal.overflow_cast-next
-overflow_cast-next c = let j = c.job-job.result in omega (arith, product_few j.own.rows j.facing.rows j.own_few j.facing_few, c.write_from-written.ensures.within)
-
 pub returns : goal.returns
 unfolding own_checks effect
 returns c =
@@ -33,4 +26,4 @@ returns c =
     let said : c.if-written.answer ≡ cond r.more More Done r.count =
     elim c.if-written.branch [ then-written w ↦ rw (w.answer-is, w.if-written.true) | else-written w ↦ rw (w.answer-is, w.if-written.false) ] in
     call_done _ (given Drain c.args.out.now) c.check_drain.result (rw c.room_in-room.ensures at c.check_drain.ensures) c.in_ok-check_drain.was _ (bundle c.args.a.now c.args.b.now c.args.probe.now) _
-    (rw said (drained _ c.job-job.result c.job-job.ensures c.args.out.now _ _ r c.room_in-room.ensures c.write_from-written.ensures))
+    (rw said (job_drained _ c.job-job.result c.job-job.ensures c.args.out.now _ _ r c.room_in-room.ensures c.write_from-written.ensures))

@@ -25,4 +25,4 @@ returns c =
     let said : c.if-written.answer ≡ cond r.more MoreLone DoneLone r.count =
     elim c.if-written.branch [ then-written w ↦ rw (w.answer-is, w.if-written.true) | else-written w ↦ rw (w.answer-is, w.if-written.false) ] in
     call_done _ (given (Lone c.args.source) c.args.out.now) c.check_drain.result (rw c.room_in-room.ensures at c.check_drain.ensures) c.in_ok-check_drain.was _ (bundle c.args.a.now c.args.b.now c.args.probe.now) _
-    (rw (said, c.with-lone.ensures) (listed c.args.source _ c.args.out.now _ _ r c.room_in-room.ensures (rw (c.sheet-own.ensures.words, c.sheet-own.ensures.rows, c.sheet-facing.ensures.words, c.sheet-facing.ensures.rows, c.of-position.ensures, c.other_source-other.ensures) at c.write_lones-written.ensures)))
+    (rw (said, c.with-lone.ensures) (listed c.args.source _ c.args.out.now _ _ r c.room_in-room.ensures (rw (← c.other_source-other.ensures) (rw (c.sheet-own.ensures.words, c.sheet-own.ensures.rows, c.sheet-facing.ensures.words, c.sheet-facing.ensures.rows, c.of-position.ensures) at c.write_lones-written.ensures))))

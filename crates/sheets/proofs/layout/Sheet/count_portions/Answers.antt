@@ -1,6 +1,5 @@
 -- The sizes so far are those of the rows passed.
-use Rattle.std.proofs.Common.{sym, ap, ◌∙◌, arith}
-use borrow.Author.Tests.{eq-eqb, ne_eqb}
+use Rattle.std.proofs.Common.{sym, ap, ◌∙◌, eq-eqb, ne_eqb, arith}
 use Rattle.stamps.specs.Keys.{part_of}
 use Rattle.sheets.specs.Layout.{row_at}
 use Rattle.sheets.proofs.RowTurns.{sized_first, sized_few, sized_none, sized_one}

@@ -1,5 +1,5 @@
 -- The last entry is the one before the size.
-use borrow.Author.Tests.{eq-eqb}
+use Rattle.std.proofs.Common.{eq-eqb}
 use Rattle.sheets.proofs.ListTurns.{probed_none, probed_some}
 use Rattle.sheets.proofs.lists.ProbeList.probed_at.Goals as goal
 
