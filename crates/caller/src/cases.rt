@@ -143,7 +143,7 @@ enum Request {
 }
 
 impl Request {
-    // Performs the call, or the opening, on these sheets.
+    // Performs the call, or the opening, on these sheets, lent as calls lends them on.
     fn perform(self, a: &mut [u32], b: &mut [u32], probe: &mut [u32], out: &mut [u32]) -> Reply
         ensures { leaves result (bundle a.new b.new probe.new) out.new ≡
             left_by self (bundle a.old b.old probe.old) out.old }

@@ -28,7 +28,8 @@ pub fn new_session(parts: u32, slots: u32, limit: u32) -> Session
 }
 
 // Opens a session on sheets of any content. No Result inside: a refused opening hands back a record of zeros, so there is no
-// session that `settled` could hand back.
+// session that `settled` could hand back. P, M and N stay three numbers: who opens a session has them so, and a struct of them would
+// serve this one call.
 #[tactic(auto, unfolding(rules::specs::Calls::opens))]
 pub fn open(parts: u32, slots: u32, limit: u32, a: &[u32], b: &[u32], probe: &[u32]) -> Reply
     ensures { result ≡ opens parts slots limit (bundle a.now b.now probe.now) }

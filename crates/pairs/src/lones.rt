@@ -31,7 +31,7 @@ pub fn is_lone(own: &Sheet, facing: &Sheet, row: usize) -> bool
 }
 
 // Writes the rows without partner from the position on until the room is used up. The loop is that of a job's pairs: a trait over both
-// walks, with what each writes and where it stands, is longer than the two loops and no plainer.
+// walks, with what each writes and where it stands, is longer than the two loops and no plainer. `LoneRows` is where the two sheets stand together.
 pub fn write_lones(
     own: &Sheet,
     facing: &Sheet,

@@ -34,7 +34,8 @@ fn print_piece<W: Write>(out: &mut W, numbers: &[u32]) -> io::Result<()>
     out.write_all(text.as_slice())
 }
 
-// Numbers, each after a space.
+// Numbers, each after a space. Not one with text's put_numbers, by which it puts each piece: that puts into a text with room and cannot fail;
+// this writes, may fail, and says nothing where the writer's bytes are unknown.
 fn print_numbers<W: Write>(out: &mut W, numbers: &[u32]) -> io::Result<()>
     ensures { OnOk result (Appends (W.contents out.old) (W.contents out.new) (numbers_text numbers.now)) }
 {

@@ -12,7 +12,7 @@ use stamps::Source;
 const PARTS: usize = 16;
 
 impl Sheet<'_> {
-    // The number of rows in memory. Loops over all rows are written out: a chain (`filter`, `count`) is neither vectorised nor unrolled.
+    // The number of rows in memory. A scan whose turn is a test or two is written out: a chain (`filter`, `count`) is neither vectorised nor unrolled.
     pub fn count_memory(&self) -> usize
         ensures { result ≡ memory_rows (row_at self.now.words.now) self.now.rows }
     {
@@ -25,7 +25,7 @@ impl Sheet<'_> {
         count
     }
 
-    // The memory rows of each partition, in one pass.
+    // The memory rows of each partition, in one pass. An array for the most that there may be, since there is no heap; the first `parts.count` count.
     fn count_portions(&self, parts: Parts) -> [usize; PARTS]
         requires { parts.count ≤ 16 }
         ensures { result ≡ values (λ q. portion_rows parts.count q (row_at self.now.words.now) self.now.rows) 16 }
@@ -72,7 +72,7 @@ impl Sheet<'_> {
     }
 }
 
-// The portion to flush when memory is full.
+// The portion to flush when memory is full. Where a portion is named, its source and its partition stay apart, as document 01's calls name them.
 #[derive(Clone, Copy, PartialEq, Eq)]
 pub struct Victim {
     pub source: Source,
