@@ -40,8 +40,8 @@ pub fn count_met_after(sheet: &Sheet, item: Item, parts: Parts, part: u32) -> us
     count_met(sheet, item)
 }
 
-// Writes the n pairs of row new of the source, whose item this is; sheet is the other source's. It counts what it has written, and looks no
-// further than the last of them: `filter`, `take` and `enumerate` would say so in a chain whose closures have to be spoken of, and no plainer.
+// Writes the n pairs of row new of the source, whose item this is; sheet is the other source's. It counts what it has written, and stops with
+// the last of them: a chain of `filter`, `take` and `enumerate`, with a closure that writes, would be no plainer.
 pub fn write_met(sheet: &Sheet, item: Item, source: Source, new: u32, n: usize, out: &mut [u32])
     requires { (sheet.now.rows ≤ 4096) × (n ≡ length (arrival_pairs new item (row_at sheet.now.words.now) (span 0 sheet.now.rows))) × (pairs_need n ≤ length out.old) }
     ensures { out.new ≡ put_from 0 (tell_all source (λ i. item) (λ j. (row_at sheet.now.words.now j).item) (arrival_pairs new item (row_at sheet.now.words.now) (span 0 sheet.now.rows))) out.old }

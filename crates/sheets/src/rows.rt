@@ -25,7 +25,7 @@ impl Sheet<'_> {
         count
     }
 
-    // The memory rows of each partition, in one pass. An array for the most that there may be, since there is no heap; the first `parts.count` count.
+    // The memory rows of each partition, in one pass: an array for as many as there may be, since there is no heap, of which `parts.count` are used.
     fn count_portions(&self, parts: Parts) -> [usize; PARTS]
         requires { parts.count ≤ 16 }
         ensures { result ≡ values (λ q. portion_rows parts.count q (row_at self.now.words.now) self.now.rows) 16 }
