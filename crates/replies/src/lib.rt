@@ -1,15 +1,14 @@
-// What an answer is printed as, as bytes put behind what a text of fixed capacity holds.
+// What an answer is printed as, as bytes put into a text.
 #![tactic(auto)]
 
-ghost use Rattle.std.specs.Prelude.{◌≡◌, ◌+◌, ◌≤◌, ◌++◌, length};
-ghost use Rattle.arrayvec.specs.ArrayVec.{array_vec_len};
+ghost use Rattle.std.specs.Prelude.{◌≡◌, ◌+◌, ◌≤◌, length};
 ghost use Rattle.sheets.specs.Layout.{pairs_need, singles_need};
 ghost use Rattle.replies.specs.Printing.{code_of, no_text, answer_most, answer_text, pairs_of, singles_of, written_of, reply_most, reply_text};
 
-use arrayvec::ArrayVec;
 use rules::{Answer, Why};
 use sheets::layout::{PAIR, SINGLE};
 use text::putting::{put_line, put_lines, put_said};
+use text::texts::Text;
 
 // The number that document 01 gives a refusal. No `From`: it would stand in `rules`, which holds types alone.
 pub fn code_of(why: Why) -> u32
@@ -30,10 +29,10 @@ pub fn code_of(why: Why) -> u32
 }
 
 // A refusal: its number, and the count that it names, where it names one.
-fn put_no<const N: usize>(text: &mut ArrayVec<u8, N>, why: Why)
-    requires { array_vec_len text.old + answer_most ≤ N }
-    ensures put { text.new.items ≡ text.old.items ++ no_text why }
-    ensures fits { array_vec_len text.new ≤ array_vec_len text.old + answer_most }
+fn put_no<T: Text>(text: &mut T, why: Why)
+    requires { T.at text.old + answer_most ≤ T.most text.old }
+    ensures put { T.Puts text.old (no_text why) text.new }
+    ensures fits { T.at text.new ≤ T.at text.old + answer_most }
 {
     let code = code_of(why);
     match why {
@@ -43,10 +42,10 @@ fn put_no<const N: usize>(text: &mut ArrayVec<u8, N>, why: Why)
 }
 
 // The line of an answer.
-pub fn put_answer<const N: usize>(text: &mut ArrayVec<u8, N>, answer: Answer)
-    requires { array_vec_len text.old + answer_most ≤ N }
-    ensures put { text.new.items ≡ text.old.items ++ answer_text answer }
-    ensures fits { array_vec_len text.new ≤ array_vec_len text.old + answer_most }
+pub fn put_answer<T: Text>(text: &mut T, answer: Answer)
+    requires { T.at text.old + answer_most ≤ T.most text.old }
+    ensures put { T.Puts text.old (answer_text answer) text.new }
+    ensures fits { T.at text.new ≤ T.at text.old + answer_most }
 {
     match answer {
         Answer::Opened | Answer::Shut => put_said(text, b"OK", 0),
@@ -81,12 +80,12 @@ fn singles_of(answer: Answer) -> u32
 }
 
 // A whole reply: the pairs, the rows without partner, then the answer.
-pub fn put_reply<const N: usize>(text: &mut ArrayVec<u8, N>, out: &[u32], answer: Answer)
-    requires room { array_vec_len text.old + reply_most (written_of answer) ≤ N }
+pub fn put_reply<T: Text>(text: &mut T, out: &[u32], answer: Answer)
+    requires room { T.at text.old + reply_most (written_of answer) ≤ T.most text.old }
     requires pairs { pairs_need (pairs_of answer) ≤ length out.now }
     requires singles { singles_need (singles_of answer) ≤ length out.now }
-    ensures put { text.new.items ≡ text.old.items ++ reply_text out.now answer }
-    ensures fits { array_vec_len text.new ≤ array_vec_len text.old + reply_most (written_of answer) }
+    ensures put { T.Puts text.old (reply_text out.now answer) text.new }
+    ensures fits { T.at text.new ≤ T.at text.old + reply_most (written_of answer) }
 {
     let (pairs, _) = out.as_chunks::<PAIR>();
     let (singles, _) = out.as_chunks::<SINGLE>();

@@ -7,6 +7,7 @@ use Rattle.std.specs.Char.{is_ascii_digit}
 use Rattle.text.specs.Gathering.{is_lf, Cut, only, before, cut, lines_from, kept, Held, held, gather, Took, Holds}
 use Rattle.text.specs.Numbers.{digits_from}
 use Rattle.text.specs.Putting.{digits_up, number_most, decimal}
+use Rattle.text.specs.Texts.{Put}
 
 -- ---- pieces of an input
 
@@ -138,6 +139,9 @@ decimal-read n h = digits_read number_most n (omega arith) (omega arith)
 
 pub put_one_result : (d w : List ℕ) {e f : List ℕ} → e ≡ d ++ w → f ≡ d ++ w → e ≡ f
 put_one_result d w a b = a ∙ sym b
+
+pub placed_one_result : {d e f : List ℕ} {at r q : ℕ} {w : List ℕ} → Put d at w r e → Put d at w q f → (r ≡ q) × (e ≡ f)
+placed_one_result a b = (a.next ∙ sym b.next, a.bytes ∙ sym b.bytes)
 
 -- two answers of one look hand back the same bytes
 pub rest_one_result : (h : Held) (r q : Option (Bor (List ℕ))) → Took h r → Took h q → option_map (λ rest. rest.now) r ≡ option_map (λ rest. rest.now) q

@@ -2,3 +2,5 @@ pub mod Fields
 pub mod Gathering
 pub mod Numbers
 pub mod Putting
+pub mod TextLaws
+pub mod Texts

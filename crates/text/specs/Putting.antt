@@ -1,5 +1,5 @@
 -- Texts put behind others: plain decimals, and lines of a word and numbers, "parted by one space".
-use Rattle.std.specs.Prelude.{cond, List, [], ◌∷◌, ◌++◌, ℕ, zero, suc, ◌+◌, ◌*◌, ◌/◌, ◌%◌, ltb}
+use Rattle.std.specs.Prelude.{cond, List, [], ◌∷◌, ◌++◌, ℕ, zero, suc, ◌+◌, ◌*◌, ◌/◌, ◌%◌, ltb, take, drop}
 
 -- ---- numbers
 
@@ -47,3 +47,14 @@ said word n = line_text word (n ∷ [])
 abbrev pub lines_text : List ℕ → List (List ℕ) → List ℕ
 lines_text word [] = []
 lines_text word (ns ∷ rows) = line_text word ns ++ lines_text word rows
+
+-- ---- tables of numbers
+
+-- row w of a table whose rows are of so many numbers
+abbrev pub row_in : ℕ → List ℕ → ℕ → List ℕ
+row_in width o w = take width (drop (width * w) o)
+
+-- n of its rows, from row w on
+abbrev pub rows_in : ℕ → List ℕ → ℕ → ℕ → List (List ℕ)
+rows_in width o w zero = []
+rows_in width o w (suc n) = row_in width o w ∷ rows_in width o (suc w) n

@@ -5,3 +5,6 @@ pub mod fields;
 pub mod gathering;
 pub mod numbers;
 pub mod putting;
+#[cfg(test)]
+mod tests;
+pub mod texts;

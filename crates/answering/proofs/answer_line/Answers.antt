@@ -11,7 +11,7 @@ pub put_reply-requires : goal.put_reply-requires
 put_reply-requires c =
     let h : written_of c.respond-answer.result ≤ room_most = answer_fits c.args.line.now c.args.state.now (bundle c.args.a.now c.args.b.now c.args.probe.now) c.args.out.now _ c.respond-answer.ensures (omega arith) in
     let e : length c.clear.new.self.items ≡ 0 = ap length c.clear.ensures in
-    (search rules, (omega arith, (omega arith, omega arith)))
+    record { room = search rules; pairs = omega arith; singles = omega arith }
 
 pub returns : goal.returns
 unfolding answered

@@ -1,0 +1,51 @@
+-- The laws of what texts are put into: no bytes are no change, and texts put one after the other make the whole.
+-- Assumes nothing.
+use Rattle.std.proofs.Common.{◌≡◌, refl, sym, ap, ◌∙◌, arith, ℕ, suc, ◌+◌, ◌-◌, ◌≤◌, List, [], ◌∷◌, ◌++◌, append_assoc, append-nil, length, length-append, set, length-set, drop-drop}
+use native.Mathlib.Nat.{add-zero}
+use borrow.Rule.Slice.PartMut.{put_mid}
+use Rattle.std.proofs.lemmas.List.Edits.{sets, sets-eq}
+use Rattle.text.specs.Texts.{Put}
+
+-- ---- behind what a text holds
+
+pub behind_none : (d : List ℕ) → d ≡ d ++ []
+behind_none d = sym (append-nil d)
+
+pub behind_both : (d : List ℕ) {e f : List ℕ} (w v : List ℕ) → e ≡ d ++ w → f ≡ e ++ v → f ≡ d ++ (w ++ v)
+behind_both d w v a b = b ∙ ap (λ l. l ++ v) a ∙ append_assoc d w v
+
+pub behind_long : (d : List ℕ) {e : List ℕ} (w : List ℕ) → e ≡ d ++ w → length e ≡ length d + length w
+behind_long d w a = ap length a ∙ length-append d w
+
+-- ---- at a place in a buffer
+
+sets-append : (d : List ℕ) (at : ℕ) (w v : List ℕ) → sets (sets d at w) (at + length w) v ≡ sets d at (w ++ v)
+sets-append d at [] v = ap (λ (k : ℕ). sets d k v) (add-zero at)
+sets-append d at (x ∷ w) v = let q : at + length (x ∷ w) ≡ suc at + length w = omega arith in
+    ap (λ (k : ℕ). sets (sets (set d at x) (suc at) w) k v) q ∙ sets-append (set d at x) (suc at) w v
+
+length-sets : (d : List ℕ) (at : ℕ) (w : List ℕ) → length (sets d at w) ≡ length d
+length-sets d at [] = refl
+length-sets d at (x ∷ w) = length-sets (set d at x) (suc at) w ∙ length-set d at x
+
+-- no bytes
+pub put_none : (d : List ℕ) (at : ℕ) → Put d at [] at d
+put_none d at = record { next = sym (add-zero at); bytes = refl; long = refl }
+
+-- one byte
+pub put_one : (d : List ℕ) (at x : ℕ) → Put d at (x ∷ []) (at + 1) (set d at x)
+put_one d at x = record { next = refl; bytes = refl; long = length-set d at x }
+
+-- a part of the buffer that is written as a whole
+pub put_part : (d : List ℕ) (at : ℕ) (w y : List ℕ) → at + length w ≤ length d → y ≡ w → Put d at w (at + length w) (put_mid at (at + length w - at) d y)
+put_part d at w y h e = let k : at + length w - at ≡ length w = omega arith in
+    let b : put_mid at (at + length w - at) d y ≡ sets d at w = rw (e, k, sets-eq w d at h, drop-drop, append_assoc) in
+    record { next = refl; bytes = b; long = ap length b ∙ length-sets d at w }
+
+-- bytes, and others at the place behind them
+pub put_then : {d e f : List ℕ} {at r q : ℕ} {w v : List ℕ} → Put d at w r e → Put e r v q f → Put d at (w ++ v) q f
+put_then {d} {e} {f} {at} {r} {q} {w} {v} a b = record {
+  next = rw length-append (omega (arith, a.next, b.next));
+  bytes = b.bytes ∙ ap (λ (l : List ℕ). sets l r v) a.bytes ∙ ap (λ (k : ℕ). sets (sets d at w) k v) a.next ∙ sets-append d at w v;
+  long = b.long ∙ a.long;
+}

@@ -1,0 +1,9 @@
+-- Bytes put into a lent buffer.
+use Rattle.std.specs.Prelude.{◌≡◌, List, ℕ, ◌+◌, length}
+use Rattle.std.proofs.lemmas.List.Edits.{sets}
+
+-- a text put into a buffer: it stands in e from `at` on, r is the place after it, and nothing else changed
+pub record Put (d : List ℕ) (at : ℕ) (text : List ℕ) (r : ℕ) (e : List ℕ) : Type 0 where
+  pub next : r ≡ at + length text
+  pub bytes : e ≡ sets d at text
+  pub long : length e ≡ length d
