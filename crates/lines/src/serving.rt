@@ -14,6 +14,7 @@ use text::gathering::take_line;
 
 // Takes the input's bytes up to the end of a line, answers it, and hands back what stands behind it; or takes all of them, where
 // the line does not end: then nothing is said.
+#[tactic(auto, using(text::proofs::Laws::gather_fits))]
 pub fn serve<'i>(
     state: &mut Option<Session>,
     line: &mut ArrayVec<u8, BUFFER>,

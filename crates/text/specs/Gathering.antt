@@ -39,6 +39,26 @@ lines_from l bytes = (cut l bytes).ended ++ rest_line (cut l bytes).begun
 abbrev pub lines_of : List ℕ → List (List ℕ)
 lines_of bytes = lines_from [] bytes
 
+-- ---- a look at an input
+
+-- the bytes of its first line: those before the LF, or all
+unfoldable pub before_lf : List ℕ → List ℕ
+before_lf [] = []
+before_lf (x ∷ bytes) = cond (is_lf x) [] (x ∷ before_lf bytes)
+
+-- and what stands behind the LF, where there is one
+unfoldable pub behind_lf : List ℕ → Option (List ℕ)
+behind_lf [] = None
+behind_lf (x ∷ bytes) = cond (is_lf x) (Some bytes) (behind_lf bytes)
+
+-- as many of the line's bytes as there is room for
+abbrev pub fitting : ℕ → List ℕ → List ℕ
+fitting room input = take room (before_lf input)
+
+-- bytes that are lent, if there are some
+abbrev pub Lent : Option (List ℕ) → Option (Bor (List ℕ)) → Type 0
+Lent rest r = MatchOption r (rest ≡ None) (λ lent. rest ≡ Some lent.now)
+
 -- ---- a line in its buffer
 
 -- a byte put behind those that the buffer holds, or dropped where these are `most`
@@ -65,4 +85,4 @@ gather most l (x ∷ bytes) = cond (is_lf x) (held l (Some bytes)) (gather most 
 
 -- what a look at the input answers: what is behind the LF, where one was met
 abbrev pub Took : Held → Option (Bor (List ℕ)) → Type 0
-Took h r = MatchOption r (h.rest ≡ None) (λ rest. h.rest ≡ Some rest.now)
+Took h r = Lent h.rest r

@@ -1,5 +1,5 @@
 // What texts are put into: behind what a text of fixed capacity holds, or at a place in a lent buffer.
-ghost use Rattle.std.specs.Prelude.{◌≡◌, ◌+◌, ◌≤◌, ◌++◌, List, [], ◌∷◌, ℕ, length, refl};
+ghost use Rattle.std.specs.Prelude.{◌≡◌, ◌+◌, ◌≤◌, ◌++◌, ◌↔◌, IsTrue, List, [], ◌∷◌, ℕ, length, refl};
 ghost use Rattle.std.proofs.Common.{◌∙◌};
 ghost use Rattle.arrayvec.specs.ArrayVec.{array_vec_len};
 ghost use Rattle.text.specs.Texts.{Put};
@@ -17,6 +17,10 @@ pub trait Text {
 
     // Bytes are put at the place of the next, and nothing else has changed.
     ghost Puts: { Self → List ℕ → Self → Type 0 };
+
+    // Whether there is room for none.
+    fn is_full(&self) -> bool
+        ensures { IsTrue result ↔ (most self.now ≤ at self.now) };
 
     fn put(&mut self, more: &[u8])
         requires { at self.old + length more.now ≤ most self.old }
@@ -45,6 +49,10 @@ impl<const N: usize> Text for ArrayVec<u8, N> {
     ghost most = { λ s. N };
 
     ghost Puts = { λ s v t. t.items ≡ s.items ++ v };
+
+    fn is_full(&self) -> bool {
+        self.len() == N
+    }
 
     fn put(&mut self, more: &[u8]) {
         let _ = self.try_extend_from_slice(more);
@@ -76,6 +84,10 @@ impl Text for Placed<'_> {
     ghost most = { λ s. length s.buf.now };
 
     ghost Puts = { λ s v t. (t.buf.ghost_name ≡ s.buf.ghost_name) × Put s.buf.now s.at v t.at t.buf.now };
+
+    fn is_full(&self) -> bool {
+        self.at >= self.buf.len()
+    }
 
     #[tactic(auto, using(crate::specs::TextLaws::put_part))]
     fn put(&mut self, more: &[u8]) {
