@@ -11,6 +11,18 @@ use Rattle.printout.specs.Printed.{session_numbers, reply_lines}
 use Rattle.caller.specs.declared.cases.Request.{Request}
 use Rattle.caller.specs.declared.cases.Request.TheVariants.{Open, Perform}
 
+-- the most words of a sheet of rows
+abbrev pub sheet_most : ℕ
+sheet_most = 12288
+
+-- of the probe lists
+abbrev pub probe_most : ℕ
+probe_most = 2048
+
+-- of an output
+abbrev pub output_most : ℕ
+output_most = 1536
+
 -- the number of a source in a case
 abbrev pub number_of : Source → ℕ
 number_of A = 0

@@ -7,7 +7,7 @@ ghost use Rattle.std.specs.Io.KnownBytes.{Appends};
 ghost use Rattle.rules.specs.World.{bundle};
 ghost use Rattle.rules.specs.Calls.{leaves};
 ghost use Rattle.printout.specs.Printed.{session_numbers};
-ghost use Rattle.caller.specs.Cases.{number_of, AsksFor, Asks, left_by, text_of};
+ghost use Rattle.caller.specs.Cases.{sheet_most, probe_most, output_most, number_of, AsksFor, Asks, left_by, text_of};
 
 use calls::opening::open;
 use calls::performing::perform;
@@ -200,6 +200,8 @@ impl<'w> Case<'w> {
             case.a.now ++ case.b.now ++ case.probe.now ++ case.out.now) }
         ensures lengths { IfSome result (λ case. take LENGTHS (drop (ASKED + RECORD) numbers.old) ≡
             length case.a.now ∷ length case.b.now ∷ length case.probe.now ∷ length case.out.now ∷ []) }
+        ensures limits { IfSome result (λ case. (length case.a.now ≤ sheet_most) × (length case.b.now ≤ sheet_most) ×
+            (length case.probe.now ≤ probe_most) × (length case.out.now ≤ output_most)) }
     {
         let (asked, rest) = numbers.split_first_chunk_mut::<ASKED>()?;
         let (record, rest) = rest.split_at_mut_checked(RECORD)?;
