@@ -1,10 +1,16 @@
 // Probe lists: which pairs earlier runs have used.
-ghost use Rattle.std.specs.Prelude.{◌≡◌, ◌*◌, ◌≤◌, ◌<◌, ℕ, length, get_or};
+ghost use Rattle.std.specs.Prelude.{◌≡◌, ◌+◌, ◌*◌, ◌/◌, ◌≤◌, ◌<◌, ℕ, length, get_or};
+ghost use Rattle.std.specs.List.{list_any, range_with_len};
 ghost use Rattle.sheets.specs.Layout.{list_no, list_need, probe_need, entry_at};
 
 use crate::layout::entry_at;
 use crate::parts::Parts;
 use stamps::{Entry, Row, Source};
+
+// The entries that are asked together, and those that may be once more behind them.
+const BLOCK: usize = 16;
+
+const HALF: usize = BLOCK / 2;
 
 // The list of one portion: its number among the lists of the probe sheet, and how many entries it has. It keeps the whole sheet and a number:
 // `entry_at`, of which document 01's words speak, counts from the sheet's beginning.
@@ -17,7 +23,7 @@ pub struct ProbeList<'s> {
 }
 
 impl ProbeList<'_> {
-    ghost use Rattle.stamps.specs.Stamps.{used, done_before};
+    ghost use Rattle.stamps.specs.Stamps.{covers, used, done_before};
     ghost use Rattle.sheets.specs.Lists.{entries_of, probed_at};
 
     // Entry number e.
@@ -28,10 +34,54 @@ impl ProbeList<'_> {
         entry_at(self.probe, self.number, e)
     }
 
-    // An entry of x's list covers x and y.
+    // Of x's list, one of N entries covers x and y. All of them are tested, by both tests: a loop that stops at the first, or at the first test, is
+    // not vectorised.
+    fn used_in<const N: usize>(&self, first: usize, x: Row, y: Row) -> bool
+        requires { first + N ≤ self.now.size }
+        ensures { result ≡ list_any (λ e. covers (entry_at self.now.probe.now self.now.number e) x y) (range_with_len first N) }
+    {
+        let mut found = false;
+        for e in first..first + N {
+            let entry = self.entry(e);
+            found |= stamps::run_took(entry, x) & stamps::run_met(entry, y);
+        }
+        found
+    }
+
+    // Of x's list, one of the entries that are asked together covers x and y.
+    fn used_in_blocks(&self, x: Row, y: Row) -> bool
+        ensures { result ≡ list_any (λ e. covers (entry_at self.now.probe.now self.now.number e) x y) (range_with_len 0 (HALF * (self.now.size / HALF))) }
+    {
+        let blocks = self.size / BLOCK;
+        if (0..blocks).any(|block| self.used_in::<BLOCK>(BLOCK * block, x, y)) {
+            return true;
+        }
+        if self.size < BLOCK * blocks + HALF {
+            return false;
+        }
+        self.used_in::<HALF>(BLOCK * blocks, x, y)
+    }
+
+    // `used` of a list with so many entries that some are asked together; the others are asked one by one.
+    #[inline(never)]
+    fn used_of_many(&self, x: &Row, y: &Row) -> bool
+        ensures { result ≡ used (entries_of self.now) x.now y.now }
+    {
+        if self.used_in_blocks(*x, *y) {
+            return true;
+        }
+        let together = HALF * (self.size / HALF);
+        (together..self.size).any(|e| stamps::run_covers(self.entry(e), *x, *y))
+    }
+
+    // An entry of x's list covers x and y. Not inlined, so that the scan that asks this of few of its rows keeps its registers.
+    #[inline(never)]
     pub fn used(&self, x: Row, y: Row) -> bool
         ensures { result ≡ used (entries_of self.now) x y }
     {
+        if HALF <= self.size {
+            return self.used_of_many(&x, &y);
+        }
         (0..self.size).any(|e| stamps::run_covers(self.entry(e), x, y))
     }
 

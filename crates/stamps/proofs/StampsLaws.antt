@@ -23,6 +23,11 @@ alive-now c r h = rw (le-ltb c r.dts h, or-false)
 
 -- ---- the lists
 
+-- an entry covers by two tests, one of each row
+pub covers_both : (e : Entry) (x y : Row) → covers e x y ≡ (not (alive e.last x) && present_at e.probe y)
+unfolding covers
+covers_both e x y = refl
+
 pub used_none : (x y : Row) → used [] x y ≡ false
 unfolding used
 used_none x y = refl

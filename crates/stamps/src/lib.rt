@@ -1,7 +1,7 @@
 // Stamps and keys: numbers only. What a feed sends, what is kept of it, and when two rows have met before.
 #![tactic(auto)]
 
-ghost use Rattle.std.specs.Prelude.{◌≡◌, ◌<◌};
+ghost use Rattle.std.specs.Prelude.{◌≡◌, ◌<◌, not};
 ghost use Rattle.stamps.specs.Keys.{in_range, made, items_match, part_of};
 ghost use Rattle.stamps.specs.Sources.{other, pick, put};
 ghost use Rattle.stamps.specs.Stamps.{alive, present_at, had_left_when, together, covers};
@@ -152,4 +152,19 @@ pub fn run_covers(entry: Entry, x: Row, y: Row) -> bool
     ensures { result ≡ covers entry x y }
 {
     !alive_at(entry.last, x) && present_at(entry.probe, y)
+}
+
+// The half of rule 2 or 3 that is about x: the run that left the entry took it. Who tests many entries at once makes both tests of each, where
+// `run_covers` makes the second only where it is needed.
+pub fn run_took(entry: Entry, spooled: Row) -> bool
+    ensures { result ≡ not (alive entry.last spooled) }
+{
+    !alive_at(entry.last, spooled)
+}
+
+// The half that is about y: it was in memory at the run.
+pub fn run_met(entry: Entry, facing: Row) -> bool
+    ensures { result ≡ present_at entry.probe facing }
+{
+    present_at(entry.probe, facing)
 }
