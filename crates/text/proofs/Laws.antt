@@ -1,15 +1,14 @@
 -- What the layers above may know of bytes: where an input is cut into pieces does not matter, what a look at it finds, a printed
 -- number reads back, and each promise allows one result. By induction on the bytes. Assumes nothing.
-use Rattle.std.proofs.Common.{◌≡◌, refl, sym, ap, subst, ◌∙◌, Bool, true, false, cond, List, [], ◌∷◌, ◌++◌, append_assoc, ℕ, zero, suc, ◌+◌, ◌-◌, ◌*◌, ◌/◌, ◌%◌, ◌^◌, ◌≤◌, ◌<◌, arith, ltb, length, length-append, length-take, append-nil, take, drop, take_all, ltb-true, ltb-false, le-leb, Bor, option_map, min, Option, Some, None}
+use Rattle.std.proofs.Common.{◌≡◌, refl, sym, ap, subst, ◌∙◌, Bool, true, false, cond, List, [], ◌∷◌, ◌++◌, append_assoc, ℕ, zero, suc, ◌+◌, ◌-◌, ◌*◌, ◌/◌, ◌%◌, ◌^◌, ◌≤◌, ◌<◌, arith, ltb, length, length-append, length-take, append-nil, take, take_all, ltb-true, ltb-false, le-leb, Bor, option_map, min, Option, Some, None}
 use Rattle.std.proofs.Math.Nat.{pow-succ'}
-use Rattle.std.proofs.Math.Seq.{take-append_seam}
-use Rattle.std.proofs.lemmas.List.{take-append-le, length-take-le}
-use Rattle.std.proofs.lemmas.List.Edits.{sets-eq}
+use Rattle.std.proofs.lemmas.List.{take-append-le}
 use Rattle.std.specs.Char.{is_ascii_digit}
 use Rattle.text.specs.Gathering.{is_lf, Cut, only, before, cut, lines_from, kept, Held, held, gather, Took, Holds, before_lf, behind_lf, fitting}
 use Rattle.text.specs.Numbers.{digits_from}
 use Rattle.text.proofs.GatherTurns.{none_fit}
 use Rattle.text.specs.Putting.{digits_up, number_most, decimal}
+use Rattle.text.specs.TextLaws.{put_held, held_room}
 use Rattle.text.specs.Texts.{Put}
 
 -- ---- pieces of an input
@@ -92,15 +91,11 @@ gather_fits most l (x ∷ bytes) = go (is_lf x) (ltb (length l) most) refl (gath
         let q : most - length l ≡ suc (most - length (l ++ (x ∷ []))) = rw length-append (omega arith) in ih ∙ rw (q, append_assoc)
     go false false e ih = let b : most ≤ length l = ltb-false (length l) most e in let q : most - length l ≡ 0 = omega arith in ih ∙ rw q
 
--- and at a place in a buffer, where the bytes in front of it are the line that is begun
-pub placed_fits : (d input : List ℕ) {e : List ℕ} {at r : ℕ} → at ≤ length d → Put d at (fitting (length d - at) input) r e → take r e ≡ (gather (length d) (take at d) input).line
-placed_fits d input {e} {at} {r} h p =
-    let w = fitting (length d - at) input in
-    let long : length (take at d) ≡ at = length-take-le at d h in
-    let fits : length w ≤ length d - at = omega (arith, length-take (length d - at) (before_lf input)) in
-    let whole : e ≡ take at d ++ w ++ drop (at + length w) d = p.bytes ∙ sets-eq w d at (omega arith) in
-    let all : r ≡ length (take at d ++ w) = rw (length-append, long) p.next in
-    rw (gather_fits, long, whole, all) (take-append_seam (take at d ++ w) _)
+-- and at a place in a buffer, where the bytes in front of it are the line that is begun: all of the buffer, past its end
+pub placed_fits : (d input : List ℕ) {e : List ℕ} {at r : ℕ} → Put d at (fitting (length d - at) input) r e → take r e ≡ (gather (length d) (take at d) input).line
+placed_fits d input {e} {at} p =
+    let b : length (fitting (length d - at) input) ≤ length d - at = omega (arith, length-take (length d - at) (before_lf input)) in
+    rw (gather_fits, held_room d at) (put_held b p)
 
 -- a look that met no LF took all: every byte is of the line that is begun
 pub gather_all : (most : ℕ) (l bytes : List ℕ) → (gather most l bytes).rest ≡ None → (begun : List ℕ) → cut begun bytes ≡ only (begun ++ bytes)

@@ -1,6 +1,8 @@
--- The laws of what texts are put into: no bytes are no change, and texts put one after the other make the whole.
--- Assumes nothing.
-use Rattle.std.proofs.Common.{◌≡◌, refl, sym, ap, ◌∙◌, arith, ℕ, suc, ◌+◌, ◌-◌, ◌≤◌, List, [], ◌∷◌, ◌++◌, append_assoc, append-nil, length, length-append, set, length-set, drop-drop}
+-- The laws of what texts are put into: no bytes are no change, texts put one after the other make the whole, and what is put
+-- stands behind the bytes in front of its place. Assumes nothing.
+use Rattle.std.proofs.Common.{◌≡◌, refl, sym, ap, ◌∙◌, arith, Bool, true, false, leb, leb-true, leb-false, ℕ, suc, ◌+◌, ◌-◌, ◌≤◌, ◌<◌, List, [], ◌∷◌, ◌++◌, append_assoc, append-nil, length, length-append, length-take, take, drop, set, length-set, drop-drop}
+use Rattle.std.proofs.Math.Seq.{take-append_seam}
+use Rattle.std.proofs.lemmas.List.{length-take-le}
 use native.Mathlib.Nat.{add-zero}
 use borrow.Rule.Slice.PartMut.{put_mid}
 use Rattle.std.proofs.lemmas.List.Edits.{sets, sets-eq}
@@ -49,3 +51,24 @@ put_then {d} {e} {f} {at} {r} {q} {w} {v} a b = record {
   bytes = b.bytes ∙ ap (λ (l : List ℕ). sets l r v) a.bytes ∙ ap (λ (k : ℕ). sets (sets d at w) k v) a.next ∙ sets-append d at w v;
   long = b.long ∙ a.long;
 }
+
+-- there is as much room behind the bytes in front of a place as from the place on
+pub held_room : (d : List ℕ) (at : ℕ) → length d - length (take at d) ≡ length d - at
+held_room d at = omega (arith, length-take at d)
+
+-- past the buffer's end there is room for none
+none_fits : {d e : List ℕ} {at r : ℕ} (w : List ℕ) → length d < at → length w ≤ length d - at → Put d at w r e → take r e ≡ take at d ++ w
+none_fits {d} {e} {at} {r} [] h b p = let q : r ≡ at = omega (arith, p.next) in rw (p.bytes, q, append-nil)
+none_fits (x ∷ w) h b p = absurd (omega arith)
+
+-- bytes that have room stand behind those in front of their place
+pub put_held : {d e : List ℕ} {at r : ℕ} {w : List ℕ} → length w ≤ length d - at → Put d at w r e → take r e ≡ take at d ++ w
+put_held {d} {e} {at} {r} {w} b p = go (leb at (length d)) refl
+  where
+    go : (u : Bool) → leb at (length d) ≡ u → take r e ≡ take at d ++ w
+    go true q = let h : at ≤ length d = leb-true at (length d) q in
+        let long : length (take at d) ≡ at = length-take-le at d h in
+        let whole : e ≡ take at d ++ w ++ drop (at + length w) d = p.bytes ∙ sets-eq w d at (omega arith) in
+        let all : r ≡ length (take at d ++ w) = rw (length-append, long) p.next in
+        rw (whole, all) (take-append_seam (take at d ++ w) _)
+    go false q = none_fits w (leb-false at (length d) q) b p
