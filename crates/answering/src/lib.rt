@@ -2,17 +2,22 @@
 #![tactic(auto)]
 
 ghost use Rattle.std.specs.Prelude.{◌≡◌, ◌≤◌, length, Option};
+ghost use Rattle.text.specs.Texts.{Anew};
 ghost use Rattle.rules.specs.World.{bundle};
-ghost use Rattle.reading.specs.Reading.{read_line};
+ghost use Rattle.reading.specs.Reading.{room_most, read_line};
+ghost use Rattle.replies.specs.Printing.{reply_most};
 ghost use Rattle.answering.specs.Answering.{began, turned, asks, asks_in, turn_of, left, answered};
 
-use arrayvec::ArrayVec;
 use calls::opening::open;
 use calls::performing::perform;
 use reading::{Line, ROOM, read_line};
 use replies::put_reply;
 use rules::{Answer, Call, Reply, Session, Why};
 use sheets::layout::{PAIR, SINGLE, words_of};
+use text::texts::Text;
+
+#[cfg(test)]
+mod tests;
 
 // The words of the output.
 pub const OUTPUT: usize = ROOM as usize * PAIR;
@@ -95,16 +100,19 @@ fn respond(
 }
 
 // Does what a line asks for, and leaves its reply alone in the text.
-pub fn answer_line(
+pub fn answer_line<R: Text>(
     state: &mut Option<Session>,
     line: &[u8],
     a: &mut [u32],
     b: &mut [u32],
     probe: &mut [u32],
     out: &mut [u32; OUTPUT],
-    reply: &mut ArrayVec<u8, REPLY>,
+    reply: &mut R,
 )
-    ensures { left state.new (bundle a.new b.new probe.new) out.new reply.new.items ≡ answered line.now state.old (bundle a.old b.old probe.old) out.old }
+    requires { reply_most room_most ≤ R.most reply.old }
+    ensures says { left state.new (bundle a.new b.new probe.new) out.new (R.held reply.new) ≡ answered line.now state.old (bundle a.old b.old probe.old) out.old }
+    ensures reply { Anew R.Clears R.Puts reply.old (R.held reply.new) reply.new }
+    ensures fits { R.at reply.new ≤ reply_most room_most }
 {
     let answer = respond(state, line, a, b, probe, out);
     reply.clear();

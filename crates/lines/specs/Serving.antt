@@ -1,5 +1,5 @@
 -- What a look at the input leaves: its next line gathered, and answered where it ended.
-use Rattle.std.specs.Prelude.{List, [], ◌∷◌, ◌++◌, ℕ, Option, Some, None}
+use Rattle.std.specs.Prelude.{◌≡◌, List, [], ◌∷◌, ◌++◌, ℕ, Option, Some, None, MatchOption}
 use Rattle.text.specs.Gathering.{Held}
 use Rattle.rules.specs.World.{Sheets}
 use Rattle.rules.specs.declared.Session.{Session}
@@ -12,6 +12,12 @@ served h t z o = elim h.rest [ Some rest ↦ answered h.line t z o | None ↦ si
 -- and the next one begins
 abbrev pub begun_after : Held → List ℕ
 begun_after h = elim h.rest [ Some rest ↦ [] | None ↦ h.line ]
+
+-- so it is in its text: the bytes are put, and where the line ended, that is what stands behind its LF, the text is begun anew
+pub record BegunIn {S : Type 0} (Puts : S → List ℕ → S → Type 0) (Clears : S → S → Type 0) (s : S) (bytes : List ℕ) (rest : Option (List ℕ)) (t : S) : Type 0 where
+  pub gathered : S
+  pub puts : Puts s bytes gathered
+  pub next : MatchOption rest (t ≡ gathered) (λ rest. Clears gathered t)
 
 -- "or at the end of input, an empty rest giving no line"
 abbrev pub finished : List ℕ → Option Session → Sheets → List ℕ → Left

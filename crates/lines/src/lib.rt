@@ -2,3 +2,5 @@
 #![tactic(auto)]
 
 pub mod serving;
+#[cfg(test)]
+mod tests;

@@ -72,7 +72,7 @@ fn feed<W: Write>(
         OnOk result (Underway all begun k [] going.new storage.new (W.contents to.new)) }
 {
     let mut text = ArrayVec::new();
-    let mut reply = ArrayVec::new();
+    let mut reply = ArrayVec::<u8, REPLY>::new();
     let mut rest = piece;
     while let Some(behind) = serve(
         &mut going.state,
@@ -95,7 +95,7 @@ fn answer_rest<W: Write>(to: &mut W, going: &mut Going, storage: &mut Storage) -
     ensures { (all : Left) (begun : List ℕ) (k : Option (List ℕ)) → Underway all begun k [] going.old storage.old (W.contents to.old) →
         OnOk result (Appends k (W.contents to.new) (talk all (rest_line begun)).text) }
 {
-    let mut reply = ArrayVec::new();
+    let mut reply = ArrayVec::<u8, REPLY>::new();
     finish(
         &mut going.state,
         &going.line,

@@ -91,11 +91,14 @@ gather_fits most l (x ∷ bytes) = go (is_lf x) (ltb (length l) most) refl (gath
         let q : most - length l ≡ suc (most - length (l ++ (x ∷ []))) = rw length-append (omega arith) in ih ∙ rw (q, append_assoc)
     go false false e ih = let b : most ≤ length l = ltb-false (length l) most e in let q : most - length l ≡ 0 = omega arith in ih ∙ rw q
 
+-- so it is in any text, by what it says of the bytes that it holds
+pub text_fits : (most at : ℕ) (l input : List ℕ) {e : List ℕ} → most - length l ≡ most - at
+    → (length (fitting (most - at) input) ≤ most - at → e ≡ l ++ fitting (most - at) input) → e ≡ l ++ fitting (most - length l) input
+text_fits most at l input room puts = rw room (puts (omega (arith, length-take (most - at) (before_lf input))))
+
 -- and at a place in a buffer, where the bytes in front of it are the line that is begun: all of the buffer, past its end
 pub placed_fits : (d input : List ℕ) {e : List ℕ} {at r : ℕ} → Put d at (fitting (length d - at) input) r e → take r e ≡ (gather (length d) (take at d) input).line
-placed_fits d input {e} {at} p =
-    let b : length (fitting (length d - at) input) ≤ length d - at = omega (arith, length-take (length d - at) (before_lf input)) in
-    rw (gather_fits, held_room d at) (put_held b p)
+placed_fits d input {e} {at} p = rw gather_fits (text_fits (length d) at (take at d) input (held_room d at) (λ b. put_held b p))
 
 -- a look that met no LF took all: every byte is of the line that is begun
 pub gather_all : (most : ℕ) (l bytes : List ℕ) → (gather most l bytes).rest ≡ None → (begun : List ℕ) → cut begun bytes ≡ only (begun ++ bytes)
