@@ -13,7 +13,8 @@ served h t z o = elim h.rest [ Some rest ↦ answered h.line t z o | None ↦ si
 abbrev pub begun_after : Held → List ℕ
 begun_after h = elim h.rest [ Some rest ↦ [] | None ↦ h.line ]
 
--- so it is in its text: the bytes are put, and where the line ended, that is what stands behind its LF, the text is begun anew
+-- and in the text that the line stands in: these bytes are put, and where the line ended, the text is begun anew; `rest` is what
+-- stands behind its LF
 pub record BegunIn {S : Type 0} (Puts : S → List ℕ → S → Type 0) (Clears : S → S → Type 0) (s : S) (bytes : List ℕ) (rest : Option (List ℕ)) (t : S) : Type 0 where
   pub gathered : S
   pub puts : Puts s bytes gathered
