@@ -1,16 +1,16 @@
 // How a caller with lent arrays has the lines of an input gathered in one of them and answered in the other, whatever it says of
 // how much of the line's array is used: past its end that is all of it. Lines and replies in an `ArrayVec` the program has.
-ghost use Rattle.std.specs.Prelude.{◌≡◌, ◌+◌, ◌-◌, ◌≤◌, length, take, Some, None};
+ghost use Rattle.std.specs.Prelude.{◌≡◌, ◌+◌, ◌-◌, ◌≤◌, cond, eqb, length, take, Some, None};
 ghost use Rattle.text.specs.Gathering.{gather, fitting, behind_lf, Took};
 ghost use Rattle.text.specs.Texts.{Put};
 ghost use Rattle.rules.specs.World.{bundle};
 ghost use Rattle.reading.specs.Reading.{line_most, room_most};
 ghost use Rattle.replies.specs.Printing.{reply_most};
-ghost use Rattle.answering.specs.Answering.{left};
-ghost use Rattle.lines.specs.Serving.{served, finished};
+ghost use Rattle.answering.specs.Answering.{left, answered, silent};
+ghost use Rattle.lines.specs.Serving.{served};
 
 use crate::serving::{finish, serve};
-use answering::{OUTPUT, REPLY};
+use answering::{OUTPUT, REPLY, answer_line};
 use reading::BUFFER;
 use rules::Session;
 use sheets::layout::{LISTS, ROW};
@@ -55,6 +55,7 @@ fn serve_at<'i>(
     }
 }
 
+// Where some are said to be used and there are none, the line is an empty one.
 fn finish_at(
     state: &mut Option<Session>,
     line: &[u8],
@@ -65,12 +66,16 @@ fn finish_at(
     out: &mut [u32; OUTPUT],
     reply: &mut [u8; REPLY],
 ) -> usize
-    ensures { let x = finished (take have line.now) state.old (bundle a.old b.old probe.old) out.old in
+    ensures { let x = cond (eqb have 0) (silent state.old (bundle a.old b.old probe.old) out.old) (answered (take have line.now) state.old (bundle a.old b.old probe.old) out.old) in
         (left state.new (bundle a.new b.new probe.new) out.new x.text ≡ x) × Put reply.old 0 x.text result reply.new × (result ≤ reply_most room_most) }
 {
     let mut said = Placed { buf: reply, at: 0 };
     let used = &line[..have.min(line.len())];
-    finish(state, used, a, b, probe, out, &mut said);
+    if have != 0 && used.is_empty() {
+        answer_line(state, used, a, b, probe, out, &mut said);
+    } else {
+        finish(state, used, a, b, probe, out, &mut said);
+    }
     said.at
 }
 
@@ -125,6 +130,19 @@ impl Desk {
             &mut self.reply,
         )
     }
+
+    fn end_none(&mut self, have: usize) -> usize {
+        finish_at(
+            &mut self.state,
+            b"",
+            have,
+            &mut self.a,
+            &mut self.b,
+            &mut self.probe,
+            &mut self.out,
+            &mut self.reply,
+        )
+    }
 }
 
 fn is_served(served: Served, have: usize, bytes: usize, rest: Option<&[u8]>) -> bool {
@@ -147,7 +165,7 @@ fn lines_at_a_place() -> Result<(), Fail> {
     )
 }
 
-// 81 bytes are a bad line, however many there are said to be, and what comes behind them is dropped.
+// 81 bytes are a bad line, however many there are said to be, and what comes behind them is dropped. So are none, if some are said to be used.
 #[test]
 fn lines_past_the_end() -> Result<(), Fail> {
     let mut desk = Desk::new();
@@ -156,8 +174,9 @@ fn lines_past_the_end() -> Result<(), Fail> {
     desk.reply = [b'.'; REPLY];
     let ended = is_served(desk.look(200, b"LONG\nSTART"), 0, 5, Some(b"START"));
     let again = desk.reply.starts_with(b"NO 9\n..") && desk.line == [b'.'; BUFFER];
+    let empty = desk.end_none(0) == 0 && desk.end_none(3) == 5;
     Ok(
-        (silent && told && ended && again)
+        (silent && told && ended && again && empty)
             .then_some(())
             .ok_or("another line, reply, place or rest")?,
     )
