@@ -7,19 +7,16 @@ ghost use Rattle.pairs.specs.Lones.{items_in, is_lone, lones_from, Lists};
 
 use crate::lone_rows::LoneRows;
 use crate::rooms::Written;
-use sheets::layout::{Sheet, put_single};
+use sheets::layout::{Sheet, put_single, row_at_place};
 use stamps::Item;
 
-// The first row from `from` on whose item matches: the inner loop of lone calls. It reads keys only.
-fn next_match(sheet: &Sheet, from: usize, item: Item) -> Option<usize>
+// The first row from `from` on whose item matches.
+pub fn next_match(sheet: &Sheet, from: usize, item: Item) -> Option<usize>
     ensures { NextIs (λ j. items_match item (row_at sheet.now.words.now j).item) sheet.now.rows from result }
 {
-    for row in from..sheet.rows {
-        if stamps::items_match(item, sheet.item(row)) {
-            return Some(row);
-        }
-    }
-    None
+    let place = sheet.place(from.min(sheet.rows));
+    let found = sheet.seek(place, item)?;
+    Some(row_at_place(found))
 }
 
 // Row number row matches no row across.

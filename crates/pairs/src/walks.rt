@@ -2,8 +2,9 @@
 ghost use Rattle.std.specs.Prelude.{◌≡◌, ◌&&◌, not, ◌*◌, ◌+◌, ◌≤◌, ◌<◌, length};
 
 use crate::due::Due;
+pub use crate::lones::next_match;
 use crate::rooms::Written;
-use sheets::layout::{Sheet, put_told};
+use sheets::layout::{Sheet, put_told, row_at_place};
 use sheets::lists::{Lists, ProbeList};
 use sheets::parts::Parts;
 use stamps::{Row, Source};
@@ -65,35 +66,29 @@ impl Job<'_> {
     ghost use Rattle.pairs.specs.Pairs.{meets, due, wanted, table_of, NextIs, left_from, wanted_pairs, pairs_from, Writes};
 
     // Of two matching rows: are they looked at, and not done before?
-    fn is_open(&self, mine: &ProbeList, theirs: &ProbeList, x: Row, y: Row) -> bool
-        ensures { result ≡ (meets self.now.scope y && not (done_before (entries_of mine.now) (entries_of theirs.now) x y)) }
+    fn is_open(&self, mine: &ProbeList, theirs: &ProbeList, x: &Row, y: Row) -> bool
+        ensures { result ≡ (meets self.now.scope y && not (done_before (entries_of mine.now) (entries_of theirs.now) x.now y)) }
     {
         self.scope.meets(y) && !mine.done_before(theirs, x, y)
     }
 
-    // Does a facing row make a wanted pair with x? Of most rows this reads keys only.
-    fn is_due(&self, mine: &ProbeList, theirs: &ProbeList, x: Row, row: usize) -> bool
-        requires { row < self.now.facing.rows }
-        ensures { result ≡ due self.now.scope (entries_of mine.now) (entries_of theirs.now) x (row_at self.now.facing.words.now row) }
-    {
-        stamps::items_match(x.item, self.facing.item(row))
-            && self.is_open(mine, theirs, x, self.facing.row(row))
-    }
-
-    // The first facing row from `from` on that makes a wanted pair with x: the inner loop of runs and drains.
+    // The first facing row from `from` on that makes a wanted pair with x: of most rows only the keys are read.
     fn next_in_row(
         &self,
         mine: &ProbeList,
         theirs: &ProbeList,
-        x: Row,
+        x: &Row,
         from: usize,
     ) -> Option<usize>
-        ensures { NextIs (λ j. due self.now.scope (entries_of mine.now) (entries_of theirs.now) x (row_at self.now.facing.words.now j)) self.now.facing.rows from result }
+        ensures { NextIs (λ j. due self.now.scope (entries_of mine.now) (entries_of theirs.now) x.now (row_at self.now.facing.words.now j)) self.now.facing.rows from result }
     {
-        for row in from..self.facing.rows {
-            if self.is_due(mine, theirs, x, row) {
-                return Some(row);
+        let facing = &self.facing;
+        let mut place = facing.place(from.min(facing.rows));
+        while let Some(found) = facing.seek(place, x.item) {
+            if self.is_open(mine, theirs, x, facing.row_from(found)) {
+                return Some(row_at_place(found));
             }
+            place = facing.behind(found);
         }
         None
     }
@@ -110,7 +105,7 @@ impl Job<'_> {
         let part = self.lists.parts.of(x.item);
         let mine = self.lists.of(self.source, part);
         let theirs = self.lists.of(stamps::other_source(self.source), part);
-        self.next_in_row(&mine, &theirs, x, spot.facing)
+        self.next_in_row(&mine, &theirs, &x, spot.facing)
     }
 
     // The number of wanted pairs, without writing any.

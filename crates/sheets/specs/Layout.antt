@@ -1,5 +1,5 @@
 -- How rows, entries and pairs stand in 32-bit words. Only this module and those below it know how many words each has.
-use Rattle.std.specs.Prelude.{Bool, List, [], ◌∷◌, ℕ, ◌+◌, ◌*◌, ◌/◌, eqb, get_or}
+use Rattle.std.specs.Prelude.{◌≡◌, ◌≤◌, Bool, List, [], ◌∷◌, ℕ, ◌+◌, ◌*◌, ◌/◌, eqb, get_or}
 use Rattle.std.proofs.lemmas.List.Edits.{sets}
 use Rattle.stamps.specs.declared.Source.{Source}
 use Rattle.stamps.specs.declared.Source.TheVariants.{A, B}
@@ -16,6 +16,18 @@ rows_need n = 3 * n
 -- row r of a sheet
 unfoldable pub row_at : List ℕ → ℕ → Row
 row_at l r = record { item = record { key = get_or l (3 * r) 0 }; ats = get_or l (3 * r + 1) 0; dts = get_or l (3 * r + 2) 0 }
+
+-- where row r begins
+abbrev pub place_of : ℕ → ℕ
+place_of r = 3 * r
+
+-- the row that begins there
+abbrev pub row_of : ℕ → ℕ
+row_of w = w / 3
+
+-- where one of n rows begins, or they end
+abbrev pub IsPlace : ℕ → ℕ → Type 0
+IsPlace n w = (w ≡ place_of (row_of w)) × (row_of w ≤ n)
 
 -- its words, in their order
 abbrev pub row_words : Row → List ℕ

@@ -1,12 +1,13 @@
 -- Rows by number: which are in memory, which belong to a portion, what a flush makes of them, and the victim.
 -- `f` gives the rows of one source by their numbers, and n is how many there are.
-use Rattle.std.specs.Prelude.{◌≡◌, Bool, cond, not, ◌&&◌, List, [], ◌∷◌, ℕ, zero, suc, ◌+◌, ◌≤◌, ltb, eqb, length}
+use Rattle.std.specs.Prelude.{◌≡◌, Bool, true, false, cond, not, ◌&&◌, List, [], ◌∷◌, ℕ, zero, suc, ◌+◌, ◌≤◌, ◌<◌, ltb, eqb, length}
 use Rattle.stamps.specs.declared.Source.TheVariants.{A, B}
+use Rattle.stamps.specs.declared.Item.{Item}
 use Rattle.stamps.specs.declared.Row.{Row}
 use Rattle.stamps.specs.Counting.{tally, top, span, keep}
-use Rattle.stamps.specs.Keys.{part_of}
+use Rattle.stamps.specs.Keys.{items_match, part_of}
 use Rattle.stamps.specs.Stamps.{in_memory, stamp}
-use Rattle.sheets.specs.Layout.{row_at, put_row}
+use Rattle.sheets.specs.Layout.{place_of, row_of, row_at, put_row}
 use Rattle.sheets.specs.declared.rows.Victim.{Victim}
 
 -- ---- memory rows and spooled rows
@@ -78,6 +79,14 @@ victim parts a b =
     (record { source = A; part = largest_part parts a })
 
 -- ---- what the functions promise
+
+-- no row from row `from` on and below n has an item that matches
+abbrev pub NoneMatches : Item → (ℕ → Row) → ℕ → ℕ → Type 0
+NoneMatches x f from n = (k : ℕ) → from ≤ k → k < n → items_match x (f k).item ≡ false
+
+-- the first that has one is the row at place w
+abbrev pub FirstAt : Item → (ℕ → Row) → ℕ → ℕ → ℕ → Type 0
+FirstAt x f from n w = (w ≡ place_of (row_of w)) × (from ≤ row_of w) × (row_of w < n) × (items_match x (f (row_of w)).item ≡ true) × NoneMatches x f from (row_of w)
 
 -- what a flush answers and leaves
 pub record Flushes (parts q clock n : ℕ) (l : List ℕ) (r : ℕ) (l' : List ℕ) : Type 0 where

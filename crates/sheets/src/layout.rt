@@ -1,13 +1,17 @@
 // Where rows, entries and pairs stand in 32-bit words. Nobody else knows how many words each has.
-ghost use Rattle.std.specs.Prelude.{◌≡◌, ◌+◌, ◌*◌, ◌/◌, ◌≤◌, ◌<◌, length};
+ghost use Rattle.std.specs.Prelude.{MatchOption, ◌≡◌, ◌+◌, ◌*◌, ◌/◌, ◌≤◌, ◌<◌, length, get_or};
 ghost use Rattle.std.proofs.lemmas.List.Edits.{sets};
 ghost use Rattle.stamps.specs.Stamps.{stamp};
-ghost use Rattle.sheets.specs.Layout.{rows_need, row_at, put_row, list_need, entry_at, put_entry, pairs_need, shows, tell, put_pair, singles_need, put_single};
+ghost use Rattle.sheets.specs.Rows.{NoneMatches, FirstAt};
+ghost use Rattle.sheets.specs.Layout.{rows_need, place_of, row_of, IsPlace, row_at, put_row, list_need, entry_at, put_entry, pairs_need, shows, tell, put_pair, singles_need, put_single};
 
 use stamps::{Entry, Item, Row, Source};
 
 // The words of a row: its key, ATS and DTS.
 pub const ROW: usize = 3;
+
+// The rows that a scan looks at in one turn.
+const BLOCK: usize = 8;
 
 // Of an entry: DTS-last and ProbeTS.
 const ENTRY: usize = 2;
@@ -53,13 +57,68 @@ pub struct Sheet<'s> {
 
 #[tactic(auto, unfolding(crate::specs::Layout::row_at))]
 impl Sheet<'_> {
+    // What is kept of the message of the row that begins at a word.
+    fn item_from(&self, word: usize) -> Item
+        requires { word < length self.now.words.now }
+        ensures { result.key ≡ get_or self.now.words.now word 0 }
+    {
+        Item {
+            key: self.words[word],
+        }
+    }
+
     // What is kept of its message.
     pub fn item(&self, row: usize) -> Item
         requires { row < self.now.rows }
         ensures { result ≡ (row_at self.now.words.now row).item }
     {
-        Item {
-            key: self.words[ROW * row],
+        self.item_from(ROW * row)
+    }
+
+    // Where row number row begins, or where the rows end. A walk goes from place to place, since a row's number is a division away.
+    pub fn place(&self, row: usize) -> usize
+        requires { row ≤ self.now.rows }
+        ensures { result ≡ place_of row }
+    {
+        ROW * row
+    }
+
+    // The place of the first row from a place on whose item matches: the inner loop of runs, drains and lone calls. It reads keys only. Where many
+    // rows match, a call would take longer than the scan.
+    #[inline(always)]
+    pub fn seek(&self, place: usize, item: Item) -> Option<usize>
+        requires { IsPlace self.now.rows place }
+        ensures { MatchOption result (NoneMatches item (row_at self.now.words.now) (row_of place) self.now.rows) (FirstAt item (row_at self.now.words.now) (row_of place) self.now.rows) }
+    {
+        let end = ROW * self.rows;
+        let mut word = place;
+        while BLOCK * ROW <= end - word {
+            let found = seek_in_block(self.words, word, item);
+            if found.is_some() {
+                return found;
+            }
+            word += BLOCK * ROW;
+        }
+        seek_in_rest(self.words, word, end, item)
+    }
+
+    // The place behind the row at a place.
+    pub fn behind(&self, place: usize) -> usize
+        requires { IsPlace self.now.rows place × (row_of place < self.now.rows) }
+        ensures { IsPlace self.now.rows result × (row_of result ≡ row_of place + 1) }
+    {
+        place + ROW
+    }
+
+    // The row that begins at a place.
+    pub fn row_from(&self, place: usize) -> Row
+        requires { IsPlace self.now.rows place × (row_of place < self.now.rows) }
+        ensures { result ≡ row_at self.now.words.now (row_of place) }
+    {
+        Row {
+            item: self.item_from(place),
+            ats: self.words[place + 1],
+            dts: self.words[place + 2],
         }
     }
 
@@ -76,13 +135,51 @@ impl Sheet<'_> {
         requires { row < self.now.rows }
         ensures { result ≡ row_at self.now.words.now row }
     {
-        let at = ROW * row;
-        Row {
-            item: self.item(row),
-            ats: self.words[at + 1],
-            dts: self.words[at + 2],
+        self.row_from(ROW * row)
+    }
+}
+
+// Of a block of rows from a place on, the place of the first whose item matches. Its turns are few, and how many is known: so they are compiled one
+// behind the other, and no loop of five instructions is left, which takes twice as long where it lies across two lines of the program.
+#[inline(always)]
+#[tactic(auto, unfolding(crate::specs::Layout::row_at))]
+fn seek_in_block(words: &[u32], place: usize, item: Item) -> Option<usize>
+    requires { IsPlace (row_of place) place × (place_of (row_of place + BLOCK) ≤ length words.now) }
+    ensures { MatchOption result (NoneMatches item (row_at words.now) (row_of place) (row_of place + BLOCK)) (FirstAt item (row_at words.now) (row_of place) (row_of place + BLOCK)) }
+{
+    for row in 0..BLOCK {
+        let word = place + ROW * row;
+        let key = words[word];
+        if stamps::items_match(item, Item { key }) {
+            return Some(word);
         }
     }
+    None
+}
+
+// The same of the rows up to the end, which are fewer than a block.
+#[inline(never)]
+#[tactic(auto, unfolding(crate::specs::Layout::row_at))]
+fn seek_in_rest(words: &[u32], place: usize, end: usize, item: Item) -> Option<usize>
+    requires { IsPlace (row_of end) place × IsPlace (row_of end) end × (end ≤ length words.now) }
+    ensures { MatchOption result (NoneMatches item (row_at words.now) (row_of place) (row_of end)) (FirstAt item (row_at words.now) (row_of place) (row_of end)) }
+{
+    let mut word = place;
+    while word < end {
+        let key = words[word];
+        if stamps::items_match(item, Item { key }) {
+            return Some(word);
+        }
+        word += ROW;
+    }
+    None
+}
+
+// The number of the row at a place.
+pub fn row_at_place(place: usize) -> usize
+    ensures { result ≡ row_of place }
+{
+    place / ROW
 }
 
 // Writes a thing of so many words, from word number at on.

@@ -74,23 +74,24 @@ impl ProbeList<'_> {
         (together..self.size).any(|e| stamps::run_covers(self.entry(e), *x, *y))
     }
 
-    // An entry of x's list covers x and y. Not inlined, so that the scan that asks this of few of its rows keeps its registers.
+    // An entry of x's list covers x and y. Not inlined, so that a walk that asks this keeps its registers.
     #[inline(never)]
-    pub fn used(&self, x: Row, y: Row) -> bool
-        ensures { result ≡ used (entries_of self.now) x y }
+    pub fn used(&self, x: &Row, y: &Row) -> bool
+        ensures { result ≡ used (entries_of self.now) x.now y.now }
     {
         if HALF <= self.size {
-            return self.used_of_many(&x, &y);
+            return self.used_of_many(x, y);
         }
-        (0..self.size).any(|e| stamps::run_covers(self.entry(e), x, y))
+        (0..self.size).any(|e| stamps::run_covers(self.entry(e), *x, *y))
     }
 
-    // Done before, by rules 1, 2 and 3: this is the list of x's portion, theirs that of y's.
+    // Done before, by rules 1, 2 and 3: this is the list of x's portion, theirs that of y's. A walk asks this of one x and many y: so x is lent,
+    // or it would be written down anew for each call.
     #[tactic(auto, using(stamps::proofs::StampsLaws::done_is))]
-    pub fn done_before(&self, theirs: &ProbeList, x: Row, y: Row) -> bool
-        ensures { result ≡ done_before (entries_of self.now) (entries_of theirs.now) x y }
+    pub fn done_before(&self, theirs: &ProbeList, x: &Row, y: Row) -> bool
+        ensures { result ≡ done_before (entries_of self.now) (entries_of theirs.now) x.now y }
     {
-        stamps::were_together(x, y) || self.used(x, y) || theirs.used(y, x)
+        stamps::were_together(*x, y) || self.used(x, &y) || theirs.used(&y, x)
     }
 
     // The last run of the list's portion was at this clock.

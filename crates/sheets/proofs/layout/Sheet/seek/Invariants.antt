@@ -1,0 +1,11 @@
+-- It stands where a row begins, and no row passed so far matches.
+use Rattle.std.proofs.Common.{◌-◌, ◌≤◌}
+use Rattle.sheets.specs.Layout.{row_of, IsPlace, row_at}
+use Rattle.sheets.specs.Rows.{NoneMatches}
+use Rattle.sheets.proofs.layout.Sheet.seek.Given as goal
+
+abbrev pub invariant-loop-word : goal.invariant-loop-word
+invariant-loop-word l = IsPlace l.self.rows l.word × (row_of l.place ≤ row_of l.word) × NoneMatches l.item (row_at l.self.words.now) (row_of l.place) (row_of l.word)
+
+abbrev pub decreases-loop-word : goal.decreases-loop-word
+decreases-loop-word l = l.end - l.word
