@@ -1,14 +1,13 @@
 -- What the layers above may know of bytes: where an input is cut into pieces does not matter, what a look at it finds, how a loop
 -- gathers, a printed number reads back, and each promise allows one result. By induction on the bytes. Assumes nothing.
-use Rattle.std.proofs.Common.{◌≡◌, refl, sym, ap, subst, ◌∙◌, Bool, true, false, cond, List, [], ◌∷◌, ◌++◌, append_assoc, ℕ, zero, suc, ◌+◌, ◌-◌, ◌*◌, ◌/◌, ◌%◌, ◌^◌, ◌≤◌, ◌<◌, ◌↔◌, arith, ltb, length, length-append, length-take, append-nil, take, take_all, drop, drop_of_length-le, get_or, eq-eqb, ne_eqb, lt-ltb, le-ltb, ltb-true, ltb-false, le-leb, Bor, option_map, min, Option, Some, None, Result, Ok, Err, IsOk, OnOk, OnErr}
+use Rattle.std.proofs.Common.{◌≡◌, refl, sym, ap, subst, ◌∙◌, Bool, true, false, cond, List, [], ◌∷◌, ◌++◌, append_assoc, ℕ, zero, suc, ◌+◌, ◌-◌, ◌*◌, ◌/◌, ◌%◌, ◌^◌, ◌≤◌, ◌<◌, ◌↔◌, arith, ltb, length, length-append, length-take, append-nil, take, take_all, drop, get_or, ne_eqb, lt-ltb, le-ltb, ltb-true, ltb-false, le-leb, Bor, option_map, min, Option, Some, None, Result, Ok, Err, IsOk, OnOk, OnErr}
 use Rattle.std.proofs.Math.Nat.{pow-succ'}
-use Rattle.std.proofs.lemmas.Grind.{common_steps}
 use Rattle.std.proofs.lemmas.List.{take-append-le, drop_more}
 use Rattle.std.specs.Char.{is_ascii_digit}
 use Rattle.arrayvec.specs.ArrayVec.{ArrayVec, array_vec_len}
 use Rattle.text.specs.Gathering.{is_lf, Cut, only, before, cut, lines_from, kept, Held, held, gather, Took, Holds, before_lf, behind_lf, fitting}
 use Rattle.text.specs.Numbers.{digits_from}
-use Rattle.text.proofs.GatherTurns.{none_fit}
+use Rattle.text.proofs.GatherTurns.{none_fit, fitting_lf, behind_lf_lent, fitting_end, behind_end}
 use Rattle.text.specs.Putting.{digits_up, number_most, decimal}
 use Rattle.text.specs.TextLaws.{put_held, held_room}
 use Rattle.text.specs.Texts.{Put}
@@ -136,13 +135,11 @@ gather_byte most l input i b n = rw (drop_more input i 0 b, ne_eqb _ _ n)
 -- an LF ends the line, and what stands behind it is lent
 pub gather_lf : (most : ℕ) (l input : List ℕ) (i : ℕ) → i < length input → get_or input i 0 ≡ 10
     → gather most l (drop i input) ≡ held l (Some (take (length input - (i + 1)) (drop (i + 1) input)))
-unfolding gather
-gather_lf most l input i b e = let q : take (length input - (i + 1)) (drop (i + 1) input) ≡ drop (i + 1) input = grind (arith, common_steps) in rw (drop_more input i 0 b, eq-eqb _ _ e, q)
+gather_lf most l input i b e = rw (gather_fits, fitting_lf (most - length l) input i b e, behind_lf_lent input i b e, append-nil)
 
 -- so does the end of the input
 pub gather_end : (most : ℕ) (l input : List ℕ) (i : ℕ) → length input ≤ i → gather most l (drop i input) ≡ held l None
-unfolding gather
-gather_end most l input i b = rw (drop_of_length-le input b)
+gather_end most l input i b = rw (gather_fits, fitting_end (most - length l) input i b, behind_end input i b, append-nil)
 
 -- a byte that is pushed where it fits
 pub kept_by : {E : Type 0} (r : Result (Unit {0}) E) (most : ℕ) (v w : ArrayVec ℕ) (x : ℕ) → (IsOk r ↔ (array_vec_len v < most)) → OnErr r (array_vec_len v ≡ most)
